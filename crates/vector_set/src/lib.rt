@@ -8,9 +8,3 @@ pub enum Found {
     Nothing,
 }
 
-pub fn no_vectors() -> [u32; 8]
-    ensures { λ r. ⌜ r ≡ empty ⌝ }
-{
-    [0; 8]
-}
-

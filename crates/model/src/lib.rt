@@ -1,0 +1,130 @@
+// The state of the gate and what its events answer. What each event does is said in specs/; the crates above carry it out.
+use vector_set::Found;
+
+// The phase of a vCPU.
+pub enum Phase {
+    Active,
+    Leaving,
+    Left,
+}
+
+// What is in flight on a vCPU: presented by its latest entry and neither confirmed by a later call or entry nor returned.
+pub enum InFlight {
+    Nothing,
+    Nmi,
+    Vector(u8),
+}
+
+// What is pending, sent or presented: the NMI or a vector.
+pub enum Item {
+    Nmi,
+    Vector(u8),
+}
+
+// The record of one vCPU. Document 01's names of the sets are A, P, S, PL and SL, in this order.
+pub struct Vcpu {
+    pub allowed: [u32; 8],
+    pub irr: [u32; 8],
+    pub isr: [u32; 8],
+    pub irr_level: [u32; 8],
+    pub isr_level: [u32; 8],
+    pub nmi: bool,
+    pub tpr: u8,
+    pub icr: u64,
+    pub phase: Phase,
+    pub flight: InFlight,
+}
+
+// The module for one guest VMPL. The records at n and above hold nothing.
+pub struct Module {
+    pub n: u32,
+    pub vmpl: u32,
+    pub registrations: u8,
+    pub vcpus: [Vcpu; 32],
+}
+
+// How a register may be used.
+pub enum Kind {
+    None,
+    Read,
+    Write,
+    Both,
+}
+
+// Whom an IPI is for.
+pub enum Target {
+    Caller,
+    All,
+    Others,
+    Physical(u32),
+    Logical(u32),
+}
+
+// What a notice admits: the NMI, the level-sensitive vector or its absence, and the edge set.
+pub struct Admitted {
+    pub nmi: bool,
+    pub level: Found,
+    pub edge: [u32; 8],
+}
+
+// Why an event is refused. Its code is `codeOf` of specs/Codes.antt.
+pub enum Refusal {
+    UnknownVcpu,
+    ShortPage,
+    NotLeaving,
+    NothingInFlight,
+    BadStart,
+    NotActive,
+    UnknownCall,
+    BadRegister,
+    BadParameter,
+    RegistrationsFull,
+    NotRegistered,
+}
+
+// A guest call that touches the caller's record and the registration count alone.
+pub enum Local {
+    Features,
+    Leave,
+    Release,
+    Register,
+    Allow(u8),
+    Disallow(u8),
+    Read(u32),
+    SetTpr(u8),
+    Eoi,
+    SelfIpi(u8),
+}
+
+// What the numbers of a guest call ask for.
+pub enum Request {
+    Local(Local),
+    Icr(u64),
+    Refused(Refusal),
+}
+
+// The answer of start, a notice, a guest call, a non-delivery or a hand-back.
+pub enum Outcome {
+    Done(u64),
+    Refused(Refusal),
+}
+
+// The answer of an entry.
+pub enum Presentation {
+    Nothing,
+    Nmi,
+    Vector(u8),
+    Window(u8),
+    Refused(Refusal),
+}
+
+// The answer of an event with the module after it.
+pub struct Stepped {
+    pub outcome: Outcome,
+    pub after: Module,
+}
+
+pub struct Entered {
+    pub presentation: Presentation,
+    pub after: Module,
+}

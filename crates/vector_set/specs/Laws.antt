@@ -12,45 +12,8 @@ use lib.ListN.{length, getD}
 use lib.Seq.{ext-getD}
 use borrow.Author.Tests.{eqb-true, eqb-false}
 use Rattle.vector_set.specs.Bits.{one, bitAt, bits}
+pub use Rattle.vector_set.specs.BitLaws.{clash, one-eqb, bits-at, bits-bit, bits-lt, bits-ext, number-ext, bits-number, bits-unique}
 use Rattle.vector_set.specs.Sets.{has, words, collect, empty, full, insert, remove, union, difference, intersection, from, highestBelow, highest, countBelow, count, isEmpty, wordOf}
-
--- anything follows where two constructors would be equal: `clash (cc)`
-pub clash : {A : Type 0} → _≡_ {A = ℕ} 0 1 → A
-clash e = let z : ⊥ = omega arith in absurd z
-
--- ---- bits
-one-odd : (b : Bool) (y : ℕ) → (one b + 2 * y) % 2 ≡ one b
-one-odd true y = omega arith
-one-odd false y = omega arith
-
-one-half : (b : Bool) (y : ℕ) → (one b + 2 * y) / 2 ≡ y
-one-half true y = omega arith
-one-half false y = omega arith
-
-one-eqb : (b : Bool) → eqb (one b) 1 ≡ b
-one-eqb true = refl
-one-eqb false = refl
-
-shift : (x b : ℕ) → x / 2 ^ suc b ≡ x / 2 / 2 ^ b
-shift x b = rw (div-div-eq-div-mul, pow-succ')
-
-bits-at : (f : ℕ → Bool) (k n b : ℕ) → b < n → bits f k n / 2 ^ b % 2 ≡ one (f (k + b))
-unfolding bits
-bits-at f k zero b h = absurd (not-suc-le-zero h)
-bits-at f k (suc n) zero h =
-    let e : k + 0 ≡ k = omega arith in rw (e, div-one, one-odd)
-bits-at f k (suc n) (suc b) h =
-    let e : k + suc b ≡ suc k + b = omega arith in
-    rw (e, shift, one-half) (bits-at f (suc k) n b (le-of-suc-le-suc h))
-
-pub bits-lt : (f : ℕ → Bool) (k n : ℕ) → bits f k n < 2 ^ n
-unfolding bits
-bits-lt f k zero = omega arith
-bits-lt f k (suc n) = go (f k) (bits-lt f (suc k) n)
-  where
-    go : (b : Bool) {y : ℕ} → y < 2 ^ n → one b + 2 * y < 2 ^ suc n
-    go true h = omega arith
-    go false h = omega arith
 
 words-at : (f : ℕ → Bool) (k n i : ℕ) → i < n → getD (words f k n) i 0 ≡ bits f (32 * (k + i)) 32
 unfolding words
@@ -73,15 +36,6 @@ pub record Words (s : List ℕ) : Type 0 where
   pub eight : length s ≡ 8
   pub small : (i : ℕ) → i < 8 → getD s i 0 < 2 ^ 32
 
-bits-ext : (f g : ℕ → Bool) (k n : ℕ) → ((b : ℕ) → b < n → f (k + b) ≡ g (k + b)) → bits f k n ≡ bits g k n
-unfolding bits
-bits-ext f g k zero h = refl
-bits-ext f g k (suc n) h =
-    let e : k + 0 ≡ k = omega arith in
-    let z : f k ≡ g k = subst (λ (j : ℕ). f j ≡ g j) e (h 0 (omega arith)) in
-    let t = bits-ext f g (suc k) n (λ b l. let d : k + suc b ≡ suc k + b = omega arith in subst (λ (j : ℕ). f j ≡ g j) d (h (suc b) (omega arith))) in
-    rw (z, t)
-
 words-ext : (f g : ℕ → Bool) (k n : ℕ) → ((v : ℕ) → v < 32 * (k + n) → f v ≡ g v) → words f k n ≡ words g k n
 unfolding words
 words-ext f g k zero h = refl
@@ -93,28 +47,6 @@ words-ext f g k (suc n) h =
 pub collect-ext : (f g : ℕ → Bool) → ((v : ℕ) → v < 256 → f v ≡ g v) → collect f ≡ collect g
 unfolding collect
 collect-ext f g h = words-ext f g 0 8 h
-
-eqb-one : (x y : ℕ) → x < 2 → y < 2 → eqb x 1 ≡ eqb y 1 → x ≡ y
-eqb-one x y hx hy e = go (eqb x 1) (eqb y 1) refl refl e
-  where
-    go : (a b : Bool) → eqb x 1 ≡ a → eqb y 1 ≡ b → a ≡ b → x ≡ y
-    go true true p q r = omega (arith, eqb-true x 1 p, eqb-true y 1 q)
-    go false false p q r =
-        let nx : x ≡ 1 → ⊥ = eqb-false x 1 p in
-        let ny : y ≡ 1 → ⊥ = eqb-false y 1 q in
-        omega arith
-    go true false p q r = clash (cc)
-    go false true p q r = clash (cc)
-
-number-ext : (n x y : ℕ) → x < 2 ^ n → y < 2 ^ n → ((b : ℕ) → b < n → bitAt x b ≡ bitAt y b) → x ≡ y
-number-ext zero x y hx hy h = omega arith
-number-ext (suc n) x y hx hy h =
-    let up : x / 2 ≡ y / 2 = number-ext n (x / 2) (y / 2) (omega arith) (omega arith)
-    (λ b l. subst (λ (t : ℕ). eqb (t % 2) 1 ≡ eqb (y / 2 / 2 ^ b % 2) 1) (shift x b)
-    (subst (λ (t : ℕ). eqb (x / 2 ^ suc b % 2) 1 ≡ eqb (t % 2) 1) (shift y b) (h (suc b) (omega arith)))) in
-    let z : bitAt x 0 ≡ bitAt y 0 = h 0 (omega arith) in
-    let low : x % 2 ≡ y % 2 = eqb-one (x % 2) (y % 2) (omega arith) (omega arith) (rw (div-one x, div-one y) at z) in
-    omega arith
 
 pub set-ext : (s t : List ℕ) → Words s → Words t → ((v : ℕ) → v < 256 → has s v ≡ has t v) → s ≡ t
 unfolding has

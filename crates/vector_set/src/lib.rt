@@ -13,4 +13,3 @@ pub fn no_vectors() -> [u32; 8]
 {
     [0; 8]
 }
-

@@ -7,7 +7,7 @@ use native.Mathlib.Omega.{arith}
 use native.Mathlib.Nat.{div-div-eq-div-mul, pow-succ', not-suc-le-zero, le-of-suc-le-suc, div-one, div-eq-of-lt}
 use lib.Dec.{eqb, eqb·suc-suc}
 use lib.Bits.{bitAnd, bitOr, and-shr, or-shr, and-step, or-step}
-use lib.Pow.{pow-mono, shr-shr}
+use lib.Pow.{pow-mono, shr-shr, high}
 use borrow.Author.Tests.{eqb-true, eqb-false, ne-eqb}
 use Rattle.vector_set.specs.Bits.{one, bitAt, bits}
 
@@ -56,6 +56,14 @@ bit-shr x k b = rw shr-shr
 pub bit-above : (n x b : ℕ) → x < 2 ^ n → n ≤ b → bitAt x b ≡ false
 bit-above n x b h l =
     let m : x < 2 ^ b = omega (arith, pow-mono {i = n} {j = b} l) in rw (div-eq-of-lt m)
+
+-- the highest bit of a number
+pub bit-top : (j x : ℕ) → 2 ^ j ≤ x → x < 2 ^ suc j → bitAt x j ≡ true
+bit-top j x l h =
+    let p : 2 ^ suc j ≡ 2 * 2 ^ j = pow-succ' 2 j in
+    let e : x ≡ 1 * 2 ^ j + (x - 2 ^ j) = omega arith in
+    let d : x / 2 ^ j ≡ 1 = ap (λ (y : ℕ). y / 2 ^ j) e ∙ high 1 j {lo = x - 2 ^ j} (omega arith) in
+    rw d
 
 pub bit-zero : (b : ℕ) → bitAt 0 b ≡ false
 bit-zero b = bit-above 0 0 b (omega arith) (omega arith)

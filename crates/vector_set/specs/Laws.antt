@@ -15,7 +15,7 @@ use Rattle.vector_set.specs.Bits.{one, bitAt, bits}
 pub use Rattle.vector_set.specs.BitLaws.{clash, one-eqb, one-le, bits-at, bits-bit, bits-lt, bits-ext, number-ext, bits-number, bits-unique}
 use Rattle.vector_set.specs.Sets.{has, words, collect, empty, full, insert, remove, union, difference, intersection, from, highestBelow, highest, countBelow, count, isNone, isEmpty, wordOf}
 
-words-at : (f : ℕ → Bool) (k n i : ℕ) → i < n → getD (words f k n) i 0 ≡ bits f (32 * (k + i)) 32
+pub words-at : (f : ℕ → Bool) (k n i : ℕ) → i < n → getD (words f k n) i 0 ≡ bits f (32 * (k + i)) 32
 unfolding words
 words-at f k zero i h = absurd (not-suc-le-zero h)
 words-at f k (suc n) zero h = let e : k + 0 ≡ k = omega arith in rw e

@@ -13,3 +13,4 @@ pub fn no_vectors() -> [u32; 8]
 {
     [0; 8]
 }
+

@@ -79,6 +79,7 @@ word-changed o keep s v x ws lv lx h =
   where
     f : ℕ → Bool
     f w = o (eqb w v) (has s w)
+
     go : (i : ℕ) → i < 8 → (t : Bool) → eqb i (v / 32) ≡ t → getD (set s (v / 32) x) i 0 ≡ bits f (32 * i) 32
     go i l true e =
         let d : i ≡ v / 32 = eqb-true i (v / 32) e in
@@ -157,12 +158,14 @@ from-31-words s ws = wordwise (from31 s) (λ v. leb 31 v && has s v) small bit
     small : (k : ℕ) → k < 8 → from31 s k < 2 ^ 32
     small zero l = and-lt 32 (getD s 0 0) 0x8000_0000 (ws .small 0 l) (omega arith)
     small (suc k) l = ws .small (suc k) l
+
     last : (b : ℕ) → b < 32 → eqb b 31 ≡ leb 31 (32 * 0 + b)
     last b r = go (eqb b 31) refl
       where
         go : (t : Bool) → eqb b 31 ≡ t → t ≡ leb 31 (32 * 0 + b)
         go true e = let d : b ≡ 31 = eqb-true b 31 e in sym (le-leb 31 (32 * 0 + b) (omega arith))
         go false e = let d : b ≡ 31 → ⊥ = eqb-false b 31 e in sym (lt-leb 31 (32 * 0 + b) (omega arith))
+
     bit : (k b : ℕ) → k < 8 → b < 32 → bitAt (from31 s k) b ≡ (leb 31 (32 * k + b) && has s (32 * k + b))
     bit zero b l r =
         bit-and (getD s 0 0) (2 ^ 31) b
@@ -220,7 +223,7 @@ count-part s k (suc n) l =
     let o : one (has s (32 * k + n)) ≡ x / 2 ^ n % 2 = ap one (has-word s k n (omega arith)) ∙ bit-number x n in
     let d : x % 2 ^ suc n ≡ x / 2 ^ n % 2 * 2 ^ n + x % 2 ^ n = ap (λ (j : ℕ). x % 2 ^ j) (omega arith) ∙ mod-pow-add x 1 n in
     let c : ones (x % 2 ^ suc n) ≡ x / 2 ^ n % 2 + ones (x % 2 ^ n) =
-        ap ones d ∙ ones-cat n (x / 2 ^ n % 2) (x % 2 ^ n) (mod-lt x (pow-pos n)) ∙ ap (λ (y : ℕ). y + ones (x % 2 ^ n)) (ones-digit (x / 2 ^ n % 2) (omega arith)) in
+    ap ones d ∙ ones-cat n (x / 2 ^ n % 2) (x % 2 ^ n) (mod-lt x (pow-pos n)) ∙ ap (λ (y : ℕ). y + ones (x % 2 ^ n)) (ones-digit (x / 2 ^ n % 2) (omega arith)) in
     let r = count-part s k n (omega arith) in
     ap (countBelow s) e ∙ omega arith
 

@@ -109,7 +109,7 @@ pub fn highest_of(s: [u32; 8]) -> Found
         let w = s[k];
         if w != 0 {
             let bit = 31 - u32::leading_zeros(w);
-            return Found::Vector((k as u32 * 32 + bit) as u8);
+            return Found::Vector((32 * (k as u32) + bit) as u8);
         }
     }
     Found::Nothing

@@ -1,6 +1,6 @@
 -- `vector_set::from_31` meets its contract: the lowest word keeps bit 31, the others stay. Assumes nothing.
 use Rattle.vector_set.specs.WordLaws.{array-words, from-31-words}
-use borrow.Author.Needs.{needs}
+use lib.Dec.{lit<}
 use Rattle.vector_set.proofs.from_31.Statement.{statement}
 use Rattle.vector_set.proofs.from_31.Tie as tie
 
@@ -11,12 +11,12 @@ pub from-31-spec : {M : Type 1} → statement M
 from-31-spec =
     tie.close
     (tie.spec
-    (λ c. search needs)
-    (λ c. search needs)
-    (λ c. search needs)
-    (λ c. search needs)
-    (λ c. search needs)
-    (λ c. search needs)
-    (λ c. search needs)
-    (λ c. search needs)
+    (λ c. lit< tt)
+    (λ c. lit< tt)
+    (λ c. lit< tt)
+    (λ c. lit< tt)
+    (λ c. lit< tt)
+    (λ c. lit< tt)
+    (λ c. lit< tt)
+    (λ c. lit< tt)
     returns)

@@ -1,6 +1,6 @@
 -- `vector_set::intersection` meets its contract: each word is the and of two. Assumes nothing.
 use Rattle.vector_set.specs.WordLaws.{array-words, intersection-words}
-use borrow.Author.Needs.{needs}
+use lib.Dec.{lit<}
 use Rattle.vector_set.proofs.intersection.Statement.{statement}
 use Rattle.vector_set.proofs.intersection.Tie as tie
 
@@ -11,20 +11,20 @@ pub intersection-spec : {M : Type 1} → statement M
 intersection-spec =
     tie.close
     (tie.spec
-    (λ c. search needs)
-    (λ c. search needs)
-    (λ c. search needs)
-    (λ c. search needs)
-    (λ c. search needs)
-    (λ c. search needs)
-    (λ c. search needs)
-    (λ c. search needs)
-    (λ c. search needs)
-    (λ c. search needs)
-    (λ c. search needs)
-    (λ c. search needs)
-    (λ c. search needs)
-    (λ c. search needs)
-    (λ c. search needs)
-    (λ c. search needs)
+    (λ c. lit< tt)
+    (λ c. lit< tt)
+    (λ c. lit< tt)
+    (λ c. lit< tt)
+    (λ c. lit< tt)
+    (λ c. lit< tt)
+    (λ c. lit< tt)
+    (λ c. lit< tt)
+    (λ c. lit< tt)
+    (λ c. lit< tt)
+    (λ c. lit< tt)
+    (λ c. lit< tt)
+    (λ c. lit< tt)
+    (λ c. lit< tt)
+    (λ c. lit< tt)
+    (λ c. lit< tt)
     returns)

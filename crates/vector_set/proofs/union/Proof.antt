@@ -1,6 +1,6 @@
 -- `vector_set::union` meets its contract: each word is the or of two. Assumes nothing.
 use Rattle.vector_set.specs.WordLaws.{array-words, union-words}
-use borrow.Author.Needs.{needs}
+use lib.Dec.{lit<}
 use Rattle.vector_set.proofs.union.Statement.{statement}
 use Rattle.vector_set.proofs.union.Tie as tie
 
@@ -11,20 +11,20 @@ pub union-spec : {M : Type 1} → statement M
 union-spec =
     tie.close
     (tie.spec
-    (λ c. search needs)
-    (λ c. search needs)
-    (λ c. search needs)
-    (λ c. search needs)
-    (λ c. search needs)
-    (λ c. search needs)
-    (λ c. search needs)
-    (λ c. search needs)
-    (λ c. search needs)
-    (λ c. search needs)
-    (λ c. search needs)
-    (λ c. search needs)
-    (λ c. search needs)
-    (λ c. search needs)
-    (λ c. search needs)
-    (λ c. search needs)
+    (λ c. lit< tt)
+    (λ c. lit< tt)
+    (λ c. lit< tt)
+    (λ c. lit< tt)
+    (λ c. lit< tt)
+    (λ c. lit< tt)
+    (λ c. lit< tt)
+    (λ c. lit< tt)
+    (λ c. lit< tt)
+    (λ c. lit< tt)
+    (λ c. lit< tt)
+    (λ c. lit< tt)
+    (λ c. lit< tt)
+    (λ c. lit< tt)
+    (λ c. lit< tt)
+    (λ c. lit< tt)
     returns)

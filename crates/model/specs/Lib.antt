@@ -7,3 +7,5 @@ pub mod Codes
 pub mod Events
 pub mod Book
 pub mod Follow
+pub mod Counts
+pub mod Alike

@@ -102,21 +102,19 @@ presents j x (handBack i p iF sh) a = false
 unfoldable pub admitsOn : ℕ → Item → ℕ → Book → Event → Bool
 admitsOn j x l w e = inPart x (partBy l w e) && eqb j (on e)
 
--- "each target active in the book": of an IPI that i sends to t, with vCPU numbers below the book's n
-abbrev pub isTarget : Book → Target → ℕ → ℕ → Bool
-isTarget w t i j = ltb j (w .n) && hits t i j && isActive (recordAt w j .phase)
+-- an IPI of the item y that i sends to the target t is one of x for j: "each target active in the book", below the book's n
+abbrev pub reaches : ℕ → Item → Book → ℕ → Item → Target → Bool
+reaches j x w i y t = sameItem x y && (ltb j (w .n) && hits t i j && isActive (recordAt w j .phase))
 
--- the numbers of a call on i write the ICR, or the self-IPI register, with y, which sends x to j
-unfoldable pub writesIcr : ℕ → Item → Book → ℕ → ℕ → ℕ → ℕ → Bool
-writesIcr j x w i op c y = eqb op 3 && eqb c 0x830 && sameItem x (icrItem y) && isTarget w (icrTarget y) i j
+-- register c with the value y: 0x830 is the ICR, 0x83F the self-IPI register
+unfoldable pub writeSends : ℕ → Item → Book → ℕ → ℕ → ℕ → Bool
+writeSends j x w i c y =
+    (eqb c 0x830 && reaches j x w i (icrItem y) (icrTarget y)) || (eqb c 0x83F && reaches j x w i (item.Vector y) Caller)
 
-unfoldable pub writesSelfIpi : ℕ → Item → Book → ℕ → ℕ → ℕ → ℕ → Bool
-writesSelfIpi j x w i op c y = eqb op 3 && eqb c 0x83F && sameItem x (item.Vector y) && isTarget w Caller i j
-
--- "An accepted ICR or self-IPI write sends its vector or NMI once to each target active in the book."
+-- "An accepted ICR or self-IPI write sends its vector or NMI once to each target active in the book." Call 3 writes
 unfoldable pub sends : ℕ → Item → Book → Event → Result → Bool
 sends j x w (notice i p) a = false
-sends j x w (call i op c y) a = accepted a && (writesIcr j x w i op c y || writesSelfIpi j x w i op c y)
+sends j x w (call i op c y) a = accepted a && (eqb op 3 && writeSends j x w i c y)
 sends j x w (entry i iF sh bl) a = false
 sends j x w (nonDelivery i) a = false
 sends j x w (handBack i p iF sh) a = false

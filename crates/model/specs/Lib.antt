@@ -9,3 +9,5 @@ pub mod Book
 pub mod Follow
 pub mod Counts
 pub mod Alike
+pub mod Bound
+pub mod Claim

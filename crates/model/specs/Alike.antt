@@ -1,7 +1,7 @@
 -- Lists that are equal but for bytes in the pages of notices, and why those that admit the same give the same.
 -- Assumes nothing.
 use mathlib.Core.Path.{_≡_, refl, ap, _∙_}
-use mathlib.Core.List.{List, [], _∷_, map}
+use mathlib.Core.List.{List, [], _∷_}
 use Prim.Native.Nat.{ℕ}
 use lib.ListN.{length}
 use Rattle.model.specs.declared.Module.{Module}
@@ -54,6 +54,6 @@ alike m none h = (refl, refl, refl)
 alike m (both {d} {e} {ds} {es} p ps) h =
     let a : Agree m d e = agree m p (cc) in
     let t : parts (next m d .vmpl) (bookOf (next m d)) ds ≡ parts (next m d .vmpl) (bookOf (next m d)) es =
-      rw (vmpl-next m d) (cc (follow m d, follow m e)) in
+    rw (vmpl-next m d) (cc (follow m d, follow m e)) in
     let ih = alike (next m d) ps t in
     (cc, a .page _ ∙ cc, cc)

@@ -2,7 +2,7 @@
 -- Assumes nothing.
 use mathlib.Core.Path.{_≡_, refl, sym, ap, subst}
 use mathlib.Core.Bool.{Bool, true, false, cond, not, _&&_, _||_}
-use mathlib.Core.List.{List, [], _∷_, _++_, map}
+use mathlib.Core.List.{List, [], _∷_, _++_}
 use mathlib.Core.Option.{Option, none, some}
 use Prim.Native.Nat.{ℕ, zero, suc, _+_, _-_, _≤_, _<_}
 use native.Mathlib.Omega.{arith}
@@ -21,7 +21,7 @@ use Rattle.model.specs.declared.Target.the-variants.{Caller}
 use Rattle.model.specs.declared.Kind.{Kind}
 use Rattle.model.specs.declared.Kind.the-variants as kind
 use Rattle.model.specs.declared.Refusal.{Refusal}
-use Rattle.model.specs.declared.Refusal.the-variants.{UnknownVcpu, ShortPage, NotLeaving, NothingInFlight, NotActive, UnknownCall, BadRegister}
+use Rattle.model.specs.declared.Refusal.the-variants.{UnknownVcpu, ShortPage, NotLeaving, NothingInFlight, NotActive, UnknownCall}
 use Rattle.model.specs.declared.Local.{Local}
 use Rattle.model.specs.declared.Local.the-variants as local
 use Rattle.model.specs.declared.Request.{Request}
@@ -33,8 +33,8 @@ use Rattle.model.specs.Doorbell.{longEnough, isVector, Part, isLevel, ad
 use Rattle.model.specs.Registers.{class, ppr, isRead, isWrite, isBoth, kindOf, endedAt, ended}
 use Rattle.model.specs.Ipi.{icrLegal, icrItem, icrTarget, hits, reached, post, reach, mapFrom, sent}
 use Rattle.model.specs.Requests.{bad, registration, readBy, writeValue, writeBy, nameable, permission, requestOf, forget, leaveIf, serve}
-use Rattle.model.specs.Events.{Event, notice, call, entry, nonDelivery, handBack, on, noticed, Offer, idle, offerNmi, offerVector, offerWindow, offerHighest, offer, flightOf, offered, present, giveBack, emptied, Verdict, accept, refuse, need, mayServe, mayCall, vcpuVerdict, verdict, doNotice, doCall, doEntry, doNonDelivery, doHandBack, step, next, run}
-use Rattle.model.specs.Book.{Book, recordOf, recordAt, bookOf, partBy}
+use Rattle.model.specs.Events.{Event, notice, call, entry, nonDelivery, handBack, on, noticed, Offer, idle, offerNmi, offerVector, offerWindow, offerHighest, offer, flightOf, offered, present, giveBack, emptied, Verdict, accept, refuse, need, mayCall, vcpuVerdict, verdict, doNotice, doCall, doEntry, doNonDelivery, doHandBack, step, next, run}
+use Rattle.model.specs.Book.{Book, recordAt, bookOf, partBy}
 use Rattle.model.specs.Counts.{results, InRange, sameItem, isItem, inPart, accepted, presentedBy, presents, admitsOn, reaches, writeSends, sends, latest, returns, timesPresented, timesAdmitted, timesSent, timesReturned}
 use Rattle.model.specs.Follow.{record-book, part-accepted, follow, vmpl-next}
 use Rattle.vector_set.specs.Bits.{one, bitAt}
@@ -42,7 +42,7 @@ use Rattle.vector_set.specs.Sets.{has, empty, highest}
 use Rattle.vector_set.specs.Laws.{clash, has-collect, has-empty, has-insert, has-remove, highest-has}
 
 -- ---- what acceptance tells
-pub record Known (m : Module) (i : ℕ) (t : Phase → Bool) : Type 0 where
+record Known (m : Module) (i : ℕ) (t : Phase → Bool) : Type 0 where
   below : ltb i (size m) ≡ true
   phase : t (vcpuAt m i .phase) ≡ true
   there : i < length (m .vcpus)
@@ -395,10 +395,10 @@ module _ (j : ℕ) (x : Item) (w : Book) (i : ℕ) where
     where
       pick : (e s t k : Bool) → (e || s || t || k) ≡ true
           → one (
-            sendsBy j x w i
-            (cond e (cond (eqb y 0) (request.Local local.Eoi) bad)
-            (cond s (cond (isVector y) (request.Local (local.SelfIpi y)) bad)
-            (cond t (cond (leb y 255) (request.Local (local.SetTpr y)) bad) (cond (icrLegal y) (request.Icr y) bad))))
+          sendsBy j x w i
+          (cond e (cond (eqb y 0) (request.Local local.Eoi) bad)
+          (cond s (cond (isVector y) (request.Local (local.SelfIpi y)) bad)
+          (cond t (cond (leb y 255) (request.Local (local.SetTpr y)) bad) (cond (icrLegal y) (request.Icr y) bad))))
           )
           ≤ one ((k && reaches j x w i (icrItem y) (icrTarget y)) || (s && reaches j x w i (item.Vector y) Caller))
       pick true s t k h = either-le (eqb y 0) _ _ _ (omega arith) (omega arith)
@@ -468,7 +468,7 @@ module _ (m : Module) (j : ℕ) (x : Item) (r : InRange x) (l : InFlight) (k : F
       rw (vcpuAt-sent y t i (withVcpu m i u) j, size-put m i u)
       (on-put m i u j (h .there)
       (λ _ _ o v. Follows (o .flight) l
-        → Kept 0 o (reach y t i (size m) j v) (one (sameItem x y && (ltb j (size m) && hits t i j && isActive (o .phase)))) l)
+      → Kept 0 o (reach y t i (size m) j v) (one (sameItem x y && (ltb j (size m) && hits t i j && isActive (o .phase)))) l)
       (λ q. (rw (← a, ← b) (omega (arith, reach-le x r y t i (size m) j u)), rw (reach-flight y t i (size m) j u, c) tt))
       (λ q. (omega (arith, reach-le x r y t i (size m) j (vcpuAt m j)), rw (reach-flight y t i (size m) j (vcpuAt m j)) q)) k)
 
@@ -529,7 +529,7 @@ module _ (m : Module) (j : ℕ) (x : Item) (r : InRange x) (l : InFlight) (k : F
   keep (call i op c y) =
       let b = keep-call (verdict m (call i op c y)) (requestOf op c y) i (known-of m (call i op c y)) in
       let a = accepted-le (accepted (doCall (verdict m (call i op c y)) (requestOf op c y) m i .result))
-        (sendsBy j x (bookOf m) i (requestOf op c y)) (eqb op 3 && writeSends j x (bookOf m) i c y) (request-le j x (bookOf m) i op c y) in
+      (sendsBy j x (bookOf m) i (requestOf op c y)) (eqb op 3 && writeSends j x (bookOf m) i c y) (request-le j x (bookOf m) i op c y) in
       (omega arith, b .1)
   keep (entry i iF sh bl) =
       let b = keep-entry (verdict m (entry i iF sh bl)) (offer iF sh bl (vcpuAt m i)) i (known-of m (entry i iF sh bl)) (offer-pends iF sh bl (vcpuAt m i)) in

@@ -7,7 +7,7 @@ use Prim.Native.Nat.{ℕ, _+_, _≤_}
 use lib.Dec.{leb}
 use Rattle.model.specs.declared.InFlight.the-variants.{Nothing}
 use Rattle.model.specs.declared.Item.{Item}
-use Rattle.model.specs.State.{size, mayStart, started, stopped, start}
+use Rattle.model.specs.State.{size, started, stopped, start}
 use Rattle.model.specs.Events.{Event, final}
 use Rattle.model.specs.Book.{note, bookOf, feedAll, parts}
 use Rattle.model.specs.Counts.{results, pages, InRange, timesPresented, timesAdmitted, timesSent, timesReturned}

@@ -6,7 +6,7 @@ use mathlib.Core.List.{List, [], _∷_, map}
 use mathlib.Core.Option.{Option, none, some}
 use Prim.Native.Nat.{ℕ, zero, suc, _+_, _-_, _%_}
 use lib.Dec.{ltb, leb, eqb}
-use lib.ListN.{length, set, List·getD-map}
+use lib.ListN.{set, List·getD-map}
 use lib.Seq.{map-set-same}
 use borrow.Author.Tests.{eqb-true}
 use Rattle.model.specs.declared.Phase.the-variants.{Leaving, Left}
@@ -17,8 +17,7 @@ use Rattle.model.specs.declared.Item.the-variants as item
 use Rattle.model.specs.declared.Target.{Target}
 use Rattle.model.specs.declared.Kind.{Kind}
 use Rattle.model.specs.declared.Kind.the-variants as kind
-use Rattle.model.specs.declared.Refusal.{Refusal}
-use Rattle.model.specs.declared.Refusal.the-variants.{UnknownVcpu, ShortPage, NotLeaving, NotActive, UnknownCall, RegistrationsFull, NotRegistered}
+use Rattle.model.specs.declared.Refusal.the-variants.{UnknownVcpu, ShortPage, NotLeaving, NotActive, RegistrationsFull, NotRegistered}
 use Rattle.model.specs.declared.Local.{Local}
 use Rattle.model.specs.declared.Local.the-variants as local
 use Rattle.model.specs.declared.Request.{Request}
@@ -28,12 +27,12 @@ use Rattle.model.specs.declared.Module.{Module}
 use Rattle.model.specs.State.{isActive, isLeaving, absent, size, vcpuAt, withVcpu, withRegistrations}
 use Rattle.model.specs.Doorbell.{longEnough, isVector, Part, noPart, admitted}
 use Rattle.model.specs.Registers.{kindOf, endedAt, ended}
-use Rattle.model.specs.Ipi.{icrLegal, icrItem, icrTarget, reached, post, reach, mapFrom, sent}
+use Rattle.model.specs.Ipi.{icrLegal, reached, post, reach, mapFrom, sent}
 use Rattle.model.specs.Requests.{bad, registration, readBy, writeValue, writeBy, nameable, permission, requestOf, forget, leaveIf, serve}
-use Rattle.model.specs.Events.{Event, notice, call, entry, nonDelivery, handBack, noticed, Offer, flightOf, present, giveBack, emptied, Verdict, accept, refuse, need, mayServe, mayCall, vcpuVerdict, verdict, doNotice, store, doCall, doEntry, doNonDelivery, doHandBack, step, next, final}
+use Rattle.model.specs.Events.{Event, notice, call, entry, nonDelivery, handBack, noticed, Offer, flightOf, present, giveBack, emptied, Verdict, accept, refuse, need, mayServe, mayCall, vcpuVerdict, verdict, doNotice, doCall, doEntry, doNonDelivery, doHandBack, step, next, final}
 use Rattle.model.specs.Book.{note, BookRecord, Book, recordOf, bookOf, recordAt, withRecord, withCount, withPhase, leavesAtZero, takesOne, addsOne, registers, permits, called, leaves, feed, feedAll, struck, partBy}
 use Rattle.vector_set.specs.Bits.{bitAt}
-use Rattle.vector_set.specs.Sets.{empty, insert, remove, highest}
+use Rattle.vector_set.specs.Sets.{empty, insert, remove}
 use Rattle.vector_set.specs.Laws.{clash}
 
 -- ---- the book of a module, at a record and after a change

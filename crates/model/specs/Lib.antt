@@ -10,4 +10,5 @@ pub mod Follow
 pub mod Counts
 pub mod Alike
 pub mod Bound
+pub mod Allowed
 pub mod Claim

@@ -143,7 +143,8 @@ partBy l w (entry i iF sh bl) = noPart
 partBy l w (nonDelivery i) = noPart
 partBy l w (handBack i p iF sh) = noPart
 
--- for each event of a list what it admits, under the book that the events before it left
+-- for each event of a list what it admits, under the book that the events before it left. Two parts are equal exactly when the NMI,
+-- the level-sensitive vector or its absence, and the edge set are: a set is its eight words (`set-ext`)
 unfoldable pub parts : ℕ → Book → List Event → List Part
 parts l w [] = []
 parts l w (e ∷ es) = partBy l w e ∷ parts l (feed w (note e)) es

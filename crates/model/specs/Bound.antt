@@ -524,7 +524,8 @@ module _ (m : Module) (j : ℕ) (x : Item) (r : InRange x) (l : InFlight) (k : F
       (latest j l e (step m e .result))
   unfolding step presents admitsOn sends returns latest
   keep (notice i p) =
-      let b = keep-notice (verdict m (notice i p)) (admitted (m .vmpl) (vcpuAt m i .allowed) p) (partBy (m .vmpl) (bookOf m) (notice i p)) i p (known-of m (notice i p)) (part-accepted m i p) in
+      let b = keep-notice (verdict m (notice i p)) (admitted (m .vmpl) (vcpuAt m i .allowed) p) (partBy (m .vmpl) (bookOf m) (notice i p)) i p
+      (known-of m (notice i p)) (part-accepted m i p) in
       (omega arith, b .1)
   keep (call i op c y) =
       let b = keep-call (verdict m (call i op c y)) (requestOf op c y) i (known-of m (call i op c y)) in
@@ -578,7 +579,9 @@ empty-start n l j = pick (mayStart n l)
     no-record = (λ x r. nothing-pends x r, refl)
 
     pick : (b : Bool) → Empty (vcpuAt (cond b (started n l) stopped) j)
-    pick true = at-append Empty fresh absent (λ x r. nothing-pends x r, refl) (replicate (32 - n) absent) (at-replicate Empty absent absent no-record no-record (32 - n)) n j
+    pick true =
+        at-append Empty fresh absent (λ x r. nothing-pends x r, refl) (replicate (32 - n) absent)
+        (at-replicate Empty absent absent no-record no-record (32 - n)) n j
     pick false = at-replicate Empty absent absent no-record no-record 32 j
 
 pub bounded-start : (n l j : ℕ) (x : Item) → InRange x → (es : List Event)

@@ -5,3 +5,10 @@ pub mod Ipi
 pub mod Requests
 pub mod Codes
 pub mod Events
+pub mod Book
+pub mod Follow
+pub mod Counts
+pub mod Alike
+pub mod Bound
+pub mod Allowed
+pub mod Claim

@@ -3,7 +3,7 @@
 use super::Generator;
 use crate::events::Event;
 use crate::registers::{EOI, ICR, SELF_IPI, TPR};
-use crate::state::Item;
+use crate::state::{Item, Phase};
 
 pub(super) fn allow(vcpu: u32, v: usize, put: bool) -> Event {
     let ecx = v as u32 + if put { 256 } else { 0 };
@@ -106,8 +106,12 @@ impl Generator {
 
     /// Registers up to 255 and past it, and sometimes back down to 0.
     pub(super) fn many_registrations(&mut self) {
-        let vcpu = self.vcpu();
-        let up = 257 - u32::from(self.module.count).min(256);
+        let active = self.in_phase(Phase::Active);
+        if active.is_empty() || self.module.count == 0 {
+            return;
+        }
+        let vcpu = self.random.pick(&active);
+        let up = 257 - u32::from(self.module.count);
         let down = if self.random.chance(50) { 253 } else { 2 };
         for _ in 0..up {
             self.queue.push_back(Event::Call { vcpu, call: 1, ecx: 2, rdx: 0 });

@@ -27,8 +27,15 @@ pub struct Book {
 impl Book {
     /// "At first as in that module": what start gives, refused or not.
     pub fn of(m: &Module) -> Book {
-        let page = |r: &crate::state::Record| Page { phase: r.phase, allowed: r.allowed.clone() };
-        Book { n: m.n, count: m.count, vcpus: m.records.iter().map(page).collect() }
+        let page = |r: &crate::state::Record| Page {
+            phase: r.phase,
+            allowed: r.allowed.clone(),
+        };
+        Book {
+            n: m.n,
+            count: m.count,
+            vcpus: m.records.iter().map(page).collect(),
+        }
     }
 
     pub fn active(&self, vcpu: u32) -> bool {

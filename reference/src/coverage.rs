@@ -61,19 +61,28 @@ impl Coverage {
         let mut line = Vec::new();
         let mut counts = BTreeMap::new();
         while lines.next(&mut line)? {
-            *counts.entry(kind(&String::from_utf8_lossy(&line))).or_insert(0) += 1;
+            *counts
+                .entry(kind(&String::from_utf8_lossy(&line)))
+                .or_insert(0) += 1;
         }
         Ok(Coverage { counts })
     }
 
     pub fn missing(&self) -> Vec<&'static str> {
-        EXPECTED.into_iter().filter(|&kind| !self.counts.contains_key(kind)).collect()
+        EXPECTED
+            .into_iter()
+            .filter(|&kind| !self.counts.contains_key(kind))
+            .collect()
     }
 
     /// Lines that no event may have.
     pub fn unexpected(&self) -> Vec<&str> {
         let known = |kind: &str| EXPECTED.contains(&kind);
-        self.counts.keys().map(|kind| kind.as_str()).filter(|kind| !known(kind)).collect()
+        self.counts
+            .keys()
+            .map(|kind| kind.as_str())
+            .filter(|kind| !known(kind))
+            .collect()
     }
 
     pub fn complete(&self) -> bool {

@@ -28,7 +28,11 @@ pub struct Played {
 }
 
 pub fn played(list: &[Event], gate: Gate) -> Played {
-    let mut p = Played { answers: vec![], hand_back_pages: vec![], module: Module::refused() };
+    let mut p = Played {
+        answers: vec![],
+        hand_back_pages: vec![],
+        module: Module::refused(),
+    };
     for event in list {
         let mut event = event.clone();
         p.answers.push(gate(&mut p.module, &mut event));
@@ -51,12 +55,17 @@ pub fn opened(list: &[Event]) -> (Book, u32) {
 /// What of an event the book is fed.
 pub fn entry_of(event: &Event) -> Option<Entry> {
     match event {
-        Event::Call { vcpu, call, ecx, .. } => {
-            Some(Entry::Call { vcpu: *vcpu, call: *call, ecx: *ecx })
-        }
-        Event::HandBack { vcpu, page, .. } => {
-            Some(Entry::HandBack { vcpu: *vcpu, length: page.len() })
-        }
+        Event::Call {
+            vcpu, call, ecx, ..
+        } => Some(Entry::Call {
+            vcpu: *vcpu,
+            call: *call,
+            ecx: *ecx,
+        }),
+        Event::HandBack { vcpu, page, .. } => Some(Entry::HandBack {
+            vcpu: *vcpu,
+            length: page.len(),
+        }),
         _ => None,
     }
 }
@@ -127,7 +136,9 @@ impl Counts {
 
     fn give_back(&mut self, vcpu: u32) -> Result<(), String> {
         let Some(item) = self.accounts[vcpu as usize].latest else {
-            return Err(format!("a non-delivery accepted on vCPU {vcpu}, nothing presented"));
+            return Err(format!(
+                "a non-delivery accepted on vCPU {vcpu}, nothing presented"
+            ));
         };
         self.gain(vcpu, item);
         Ok(())
@@ -151,7 +162,15 @@ impl Counts {
                     self.gain_part(*vcpu, &part);
                 }
             }
-            (Event::Call { vcpu, call: 3, ecx, rdx }, Answer::Call(Ok(_))) => {
+            (
+                Event::Call {
+                    vcpu,
+                    call: 3,
+                    ecx,
+                    rdx,
+                },
+                Answer::Call(Ok(_)),
+            ) => {
                 self.send(book, *vcpu, *ecx, *rdx);
             }
             (Event::Entry { vcpu, .. }, Answer::Entry(Ok(shown))) => self.present(*vcpu, *shown)?,
@@ -165,8 +184,13 @@ impl Counts {
 /// Part (b), and that the book agrees with the module at the end.
 pub fn bounded(list: &[Event], played: &Played) -> Result<(), String> {
     let (mut book, vmpl) = opened(list);
-    let none = Account { rest: vec![0; 257], latest: None };
-    let mut counts = Counts { accounts: vec![none; book.n as usize] };
+    let none = Account {
+        rest: vec![0; 257],
+        latest: None,
+    };
+    let mut counts = Counts {
+        accounts: vec![none; book.n as usize],
+    };
     for (index, (event, answer)) in list.iter().zip(&played.answers).enumerate() {
         counts
             .count(&book, vmpl, event, answer)
@@ -184,7 +208,11 @@ pub fn bounded(list: &[Event], played: &Played) -> Result<(), String> {
 
 /// Part (a), for the list and one twin.
 pub fn alike(first: &Played, second: &Played) -> Result<(), String> {
-    let differs = first.answers.iter().zip(&second.answers).position(|(a, b)| a != b);
+    let differs = first
+        .answers
+        .iter()
+        .zip(&second.answers)
+        .position(|(a, b)| a != b);
     if let Some(index) = differs {
         return Err(format!("event {index}: the twin's result differs"));
     }
@@ -216,7 +244,11 @@ pub fn check(seed: u64, count: usize, gate: Gate) -> Result<String, String> {
         changed += check_list(list, &mut random, gate)
             .map_err(|reason| format!("seed {seed}: demand 3 FAILS in list {index}: {reason}"))?;
     }
-    let notices = lists.iter().flatten().filter(|e| matches!(e, Event::Notice { .. })).count();
+    let notices = lists
+        .iter()
+        .flatten()
+        .filter(|e| matches!(e, Event::Notice { .. }))
+        .count();
     Ok(format!(
         "seed {seed}: demand 3 holds for {} lists of {count} events, {changed} of {notices} notice \
          pages changed",

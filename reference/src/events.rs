@@ -9,12 +9,35 @@ use crate::state::{start, Item, Module, Phase, Record};
 
 #[derive(Clone, PartialEq, Eq, Debug)]
 pub enum Event {
-    Start { n: u32, vmpl: u32 },
-    Notice { vcpu: u32, page: Vec<u8> },
-    Call { vcpu: u32, call: u32, ecx: u32, rdx: u64 },
-    Entry { vcpu: u32, if_set: bool, shadow: bool, blocked: bool },
-    NonDelivery { vcpu: u32 },
-    HandBack { vcpu: u32, if_set: bool, shadow: bool, page: Vec<u8> },
+    Start {
+        n: u32,
+        vmpl: u32,
+    },
+    Notice {
+        vcpu: u32,
+        page: Vec<u8>,
+    },
+    Call {
+        vcpu: u32,
+        call: u32,
+        ecx: u32,
+        rdx: u64,
+    },
+    Entry {
+        vcpu: u32,
+        if_set: bool,
+        shadow: bool,
+        blocked: bool,
+    },
+    NonDelivery {
+        vcpu: u32,
+    },
+    HandBack {
+        vcpu: u32,
+        if_set: bool,
+        shadow: bool,
+        page: Vec<u8>,
+    },
 }
 
 /// What an accepted entry answers.
@@ -44,16 +67,25 @@ pub fn step(m: &mut Module, event: &mut Event) -> Answer {
             Answer::Start(answer)
         }
         Event::Notice { vcpu, page } => Answer::Notice(notice(m, *vcpu, page)),
-        Event::Call { vcpu, call, ecx, rdx } => {
-            Answer::Call(calls::call(m, *vcpu, *call, *ecx, *rdx))
-        }
-        Event::Entry { vcpu, if_set, shadow, blocked } => {
-            Answer::Entry(entry(m, *vcpu, *if_set, *shadow, *blocked))
-        }
+        Event::Call {
+            vcpu,
+            call,
+            ecx,
+            rdx,
+        } => Answer::Call(calls::call(m, *vcpu, *call, *ecx, *rdx)),
+        Event::Entry {
+            vcpu,
+            if_set,
+            shadow,
+            blocked,
+        } => Answer::Entry(entry(m, *vcpu, *if_set, *shadow, *blocked)),
         Event::NonDelivery { vcpu } => Answer::NonDelivery(non_delivery(m, *vcpu)),
-        Event::HandBack { vcpu, if_set, shadow, page } => {
-            Answer::HandBack(hand_back(m, *vcpu, page, *if_set, *shadow))
-        }
+        Event::HandBack {
+            vcpu,
+            if_set,
+            shadow,
+            page,
+        } => Answer::HandBack(hand_back(m, *vcpu, page, *if_set, *shadow)),
     }
 }
 
@@ -155,10 +187,8 @@ pub fn hand_back(
     let vmpl = m.vmpl;
     let record = m.record_mut(vcpu);
     page::write_handback(page, vmpl, record);
-    let result = vmpl * 65_536
-        + u32::from(record.tpr) * 256
-        + 2 * u32::from(shadow)
-        + u32::from(if_set);
+    let result =
+        vmpl * 65_536 + u32::from(record.tpr) * 256 + 2 * u32::from(shadow) + u32::from(if_set);
 
     record.allowed = VectorSet::empty();
     record.pending = VectorSet::empty();

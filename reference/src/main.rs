@@ -56,5 +56,6 @@ fn check(seed: u64, count: u64) -> Result<bool> {
 }
 
 fn number(word: &str) -> Result<u64> {
-    word.parse().map_err(|_| Error::new(ErrorKind::InvalidInput, USAGE))
+    word.parse()
+        .map_err(|_| Error::new(ErrorKind::InvalidInput, USAGE))
 }

@@ -105,14 +105,20 @@ pub fn spelling(r: &mut Random, event: &Event) -> Vec<u8> {
     }
     let (head, page) = match event {
         Event::Notice { page, .. } | Event::HandBack { page, .. } => {
-            let at = plain.find('=').map_or(plain.len(), |at| plain[..at].rfind(' ').unwrap());
+            let at = plain
+                .find('=')
+                .map_or(plain.len(), |at| plain[..at].rfind(' ').unwrap());
             (&plain[..at], page.as_slice())
         }
         _ => (plain.as_str(), &[][..]),
     };
     let mut line = spaces(r, 0);
     for (index, word) in head.split(' ').enumerate() {
-        let word = if index == 0 { word.to_string() } else { respelt(r, value(word)) };
+        let word = if index == 0 {
+            word.to_string()
+        } else {
+            respelt(r, value(word))
+        };
         line += &word;
         line += &spaces(r, 1);
     }

@@ -57,7 +57,11 @@ pub struct Admitted {
 
 impl Admitted {
     pub fn nothing() -> Admitted {
-        Admitted { nmi: false, level: None, edge: VectorSet::empty() }
+        Admitted {
+            nmi: false,
+            level: None,
+            edge: VectorSet::empty(),
+        }
     }
 
     /// The number of admitted items, the NMI counted.
@@ -134,7 +138,11 @@ pub fn write_handback(page: &mut [u8], vmpl: u32, record: &Record) {
     if write_vectors(page, start, &edge) {
         set_bit(page, start, MANY);
     }
-    write_vectors(page, start + 32, &record.service.without(&record.serving_level));
+    write_vectors(
+        page,
+        start + 32,
+        &record.service.without(&record.serving_level),
+    );
 }
 
 /// Sets the bits of the members 31 to 255 and says whether there are any.

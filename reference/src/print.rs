@@ -55,7 +55,10 @@ fn bytes(page: &[u8]) -> String {
 
 /// The lines for `state`, each with its newline.
 pub fn state(m: &Module) -> String {
-    let mut text = format!("module n={:#x} vmpl={:#x} count={:#x}\n", m.n, m.vmpl, m.count);
+    let mut text = format!(
+        "module n={:#x} vmpl={:#x} count={:#x}\n",
+        m.n, m.vmpl, m.count
+    );
     for (id, record) in m.records.iter().enumerate() {
         writeln!(text, "vcpu {id:#x} {}", record_text(record)).unwrap();
     }
@@ -100,15 +103,30 @@ impl Display for Event {
             Event::Notice { vcpu, page } => {
                 write!(f, "notice {vcpu} {}{}", page.len(), bytes(page))
             }
-            Event::Call { vcpu, call, ecx, rdx } => {
+            Event::Call {
+                vcpu,
+                call,
+                ecx,
+                rdx,
+            } => {
                 write!(f, "call {vcpu} {call} {ecx:#x} {rdx:#x}")
             }
-            Event::Entry { vcpu, if_set, shadow, blocked } => {
+            Event::Entry {
+                vcpu,
+                if_set,
+                shadow,
+                blocked,
+            } => {
                 let [i, s, b] = [if_set, shadow, blocked].map(|flag| u8::from(*flag));
                 write!(f, "entry {vcpu} {i} {s} {b}")
             }
             Event::NonDelivery { vcpu } => write!(f, "nondelivery {vcpu}"),
-            Event::HandBack { vcpu, if_set, shadow, page } => {
+            Event::HandBack {
+                vcpu,
+                if_set,
+                shadow,
+                page,
+            } => {
                 let [i, s] = [if_set, shadow].map(|flag| u8::from(*flag));
                 write!(f, "handback {vcpu} {i} {s} {}{}", page.len(), bytes(page))
             }

@@ -57,7 +57,10 @@ pub fn read(record: &Record, id: u32, register: u32) -> u64 {
         PPR => ppr(record) as u64,
         LDR => ldr(id),
         0x810..=0x817 => record.service.register(k),
-        0x818..=0x81F => record.pending_level.joined(&record.serving_level).register(k),
+        0x818..=0x81F => record
+            .pending_level
+            .joined(&record.serving_level)
+            .register(k),
         0x820..=0x827 => record.pending.register(k),
         ICR => record.icr,
         _ => unreachable!("only read and both kinds are read"),

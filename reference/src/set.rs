@@ -7,11 +7,15 @@ pub struct VectorSet {
 
 impl VectorSet {
     pub fn empty() -> VectorSet {
-        VectorSet { member: [false; 256] }
+        VectorSet {
+            member: [false; 256],
+        }
     }
 
     pub fn all() -> VectorSet {
-        VectorSet { member: [true; 256] }
+        VectorSet {
+            member: [true; 256],
+        }
     }
 
     pub fn of(vectors: &[usize]) -> VectorSet {

@@ -60,7 +60,12 @@ impl Record {
 impl Module {
     /// The module that a refused start gives.
     pub fn refused() -> Module {
-        Module { n: 0, vmpl: 1, count: 0, records: Vec::new() }
+        Module {
+            n: 0,
+            vmpl: 1,
+            count: 0,
+            records: Vec::new(),
+        }
     }
 
     /// How many vCPUs the module answers for: "a module value with n over 32 or L not 1 to 3 is
@@ -107,5 +112,13 @@ pub fn start(n: u32, vmpl: u32) -> (Result<(), Code>, Module) {
         return (Err(BAD_START), Module::refused());
     }
     let records = vec![Record::fresh(); n as usize];
-    (Ok(()), Module { n, vmpl, count: 1, records })
+    (
+        Ok(()),
+        Module {
+            n,
+            vmpl,
+            count: 1,
+            records,
+        },
+    )
 }

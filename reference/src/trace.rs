@@ -20,7 +20,10 @@ pub fn read(line: &[u8]) -> Line {
     if line.len() > LONGEST {
         return Line::Unreadable;
     }
-    let words: Vec<&[u8]> = line.split(|&b| b == b' ').filter(|w| !w.is_empty()).collect();
+    let words: Vec<&[u8]> = line
+        .split(|&b| b == b' ')
+        .filter(|w| !w.is_empty())
+        .collect();
     match words.as_slice() {
         [] => Line::PassedOver,
         [b"state"] => Line::State,
@@ -30,10 +33,14 @@ pub fn read(line: &[u8]) -> Line {
 
 fn event(name: &[u8], arguments: &[&[u8]]) -> Option<Event> {
     match (name, arguments) {
-        (b"start", [n, l]) => Some(Event::Start { n: number32(n)?, vmpl: number32(l)? }),
-        (b"notice", [v, length, bytes @ ..]) => {
-            Some(Event::Notice { vcpu: number32(v)?, page: page(length, bytes)? })
-        }
+        (b"start", [n, l]) => Some(Event::Start {
+            n: number32(n)?,
+            vmpl: number32(l)?,
+        }),
+        (b"notice", [v, length, bytes @ ..]) => Some(Event::Notice {
+            vcpu: number32(v)?,
+            page: page(length, bytes)?,
+        }),
         (b"call", [v, call, ecx, rdx]) => Some(Event::Call {
             vcpu: number32(v)?,
             call: number32(call)?,
@@ -69,7 +76,9 @@ pub fn number(word: &[u8]) -> Option<u64> {
     let mut value: u64 = 0;
     for &digit in digits {
         let digit = char::from(digit).to_digit(base)?;
-        value = value.checked_mul(u64::from(base))?.checked_add(u64::from(digit))?;
+        value = value
+            .checked_mul(u64::from(base))?
+            .checked_add(u64::from(digit))?;
     }
     Some(value)
 }

@@ -53,7 +53,10 @@ fn a_level_sensitive_vector_is_named_at_its_eoi() {
     let mut p = page(&[(3, 1), (64, 0x61), (65, 0x04)]);
     assert_eq!(notice(&mut m, 0, &mut p), Ok(1));
     assert_eq!(read(&mut m, 0, 0x81B), Ok(2));
-    assert_eq!(entry(&mut m, 0, true, false, false), Ok(Shown::Presented(Item::Vector(0x61))));
+    assert_eq!(
+        entry(&mut m, 0, true, false, false),
+        Ok(Shown::Presented(Item::Vector(0x61)))
+    );
     assert_eq!(read(&mut m, 0, 0x81B), Ok(2));
     assert_eq!(write(&mut m, 0, 0x80B, 0), Ok(0x61));
     assert_eq!(read(&mut m, 0, 0x81B), Ok(0));
@@ -76,7 +79,10 @@ fn the_class_decides_on_presenting() {
     m.records[0].tpr = 0x40;
     assert_eq!(entry(&mut m, 0, true, false, false), Ok(Shown::Nothing));
     m.records[0].tpr = 0x3F;
-    assert_eq!(entry(&mut m, 0, true, false, false), Ok(Shown::Presented(Item::Vector(0x41))));
+    assert_eq!(
+        entry(&mut m, 0, true, false, false),
+        Ok(Shown::Presented(Item::Vector(0x41)))
+    );
 }
 
 #[test]
@@ -135,7 +141,10 @@ fn a_page_of_255_bytes_is_short() {
     assert_eq!(notice(&mut m, 0, &mut p), Ok(1));
 
     m.records[0].phase = Phase::Leaving;
-    assert_eq!(hand_back(&mut m, 0, &mut p[..255], false, false), Err(SHORT_PAGE));
+    assert_eq!(
+        hand_back(&mut m, 0, &mut p[..255], false, false),
+        Err(SHORT_PAGE)
+    );
     assert_eq!(hand_back(&mut m, 0, &mut p, false, false), Ok(0x1_0000));
 }
 
@@ -158,9 +167,15 @@ fn misreading_an_edge_request_keeps_the_level_mark() {
     assert_eq!(write(&mut m, 1, 0x830, 0x4061), Ok(1));
     assert_eq!(write(&mut m, 0, 0x83F, 0x61), Ok(1));
     assert_eq!(notice(&mut m, 0, &mut page(&[(3, 1), (64, 0x61)])), Ok(1));
-    assert_eq!(notice(&mut m, 0, &mut page(&[(3, 1), (65, 0x40), (76, 0x02)])), Ok(1));
+    assert_eq!(
+        notice(&mut m, 0, &mut page(&[(3, 1), (65, 0x40), (76, 0x02)])),
+        Ok(1)
+    );
     assert_eq!(m.records[0].pending_level, set(&[0x61]));
-    assert_eq!(entry(&mut m, 0, true, false, false), Ok(Shown::Presented(Item::Vector(0x61))));
+    assert_eq!(
+        entry(&mut m, 0, true, false, false),
+        Ok(Shown::Presented(Item::Vector(0x61)))
+    );
     assert_eq!(write(&mut m, 0, 0x80B, 0), Ok(0x61));
 }
 
@@ -172,7 +187,10 @@ fn misreading_equal_class_waits() {
     m.records[0].service = set(&[0x41]);
     assert_eq!(entry(&mut m, 0, true, false, false), Ok(Shown::Nothing));
     m.records[0].pending = set(&[0x50]);
-    assert_eq!(entry(&mut m, 0, true, false, false), Ok(Shown::Presented(Item::Vector(0x50))));
+    assert_eq!(
+        entry(&mut m, 0, true, false, false),
+        Ok(Shown::Presented(Item::Vector(0x50)))
+    );
 }
 
 /// Misreading: clearing S but not SL on non-delivery.

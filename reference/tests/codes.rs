@@ -36,8 +36,16 @@ fn the_codes_of_the_kinds() {
             Kind::Write => (Err(BAD_REGISTER), Err(BAD_VALUE)),
             Kind::Both => (Ok(()), Err(BAD_VALUE)),
         };
-        assert_eq!(read(&mut m, 0, register).map(|_| ()), reading, "{register:#x}");
-        assert_eq!(write(&mut m, 0, register, u64::MAX).map(|_| ()), writing, "{register:#x}");
+        assert_eq!(
+            read(&mut m, 0, register).map(|_| ()),
+            reading,
+            "{register:#x}"
+        );
+        assert_eq!(
+            write(&mut m, 0, register, u64::MAX).map(|_| ()),
+            writing,
+            "{register:#x}"
+        );
         assert_eq!(m, fresh(2, 1));
     }
 }
@@ -81,7 +89,16 @@ fn icr_rules() {
     }
     refused(0x0004_4400);
     refused(0x0008_4400);
-    for good in [0x4041, 0x401F, 0x40FF, 0x4841, 0x4400, 0x000C_4400, 0x0004_4041, 0x0008_4041] {
+    for good in [
+        0x4041,
+        0x401F,
+        0x40FF,
+        0x4841,
+        0x4400,
+        0x000C_4400,
+        0x0004_4041,
+        0x0008_4041,
+    ] {
         assert!(write(&mut fresh(2, 1), 0, 0x830, good).is_ok(), "{good:#x}");
     }
 }
@@ -121,7 +138,10 @@ fn no_event_works_on_a_vcpu_that_has_left() {
     assert_eq!(call(&mut m, 0, 0, 0, 0), Err(NOT_ACTIVE));
     assert_eq!(entry(&mut m, 0, true, false, false), Err(NOT_ACTIVE));
     assert_eq!(non_delivery(&mut m, 0), Err(NOT_ACTIVE));
-    assert_eq!(hand_back(&mut m, 0, &mut page(&[]), true, true), Err(NOT_LEAVING));
+    assert_eq!(
+        hand_back(&mut m, 0, &mut page(&[]), true, true),
+        Err(NOT_LEAVING)
+    );
     assert_eq!(m, before);
 }
 

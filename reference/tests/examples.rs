@@ -11,7 +11,10 @@ fn stored() -> Vec<(String, Vec<u8>, String)> {
     let entries = fs::read_dir(directory).expect("the examples stand beside this crate");
     let paths = entries.map(|entry| entry.unwrap().path());
     paths
-        .filter(|path| path.extension().is_some_and(|extension| extension == "trace"))
+        .filter(|path| {
+            path.extension()
+                .is_some_and(|extension| extension == "trace")
+        })
         .map(|path| {
             let trace = fs::read(&path).unwrap();
             let output = fs::read_to_string(path.with_extension("out")).unwrap();

@@ -12,7 +12,8 @@ fn readable(line: &str) -> bool {
 
 #[test]
 fn the_example() {
-    let trace = "start 2 1\ncall 0 4 0x141 0\nnotice 0 256 3=1 64=0x41\nentry 0 1 0 0\ncall 0 3 0x80b 0\n";
+    let trace =
+        "start 2 1\ncall 0 4 0x141 0\nnotice 0 256 3=1 64=0x41\nentry 0 1 0 0\ncall 0 3 0x80b 0\n";
     let output = "start ok\ncall ok 0x0\nnotice ok 0x1 page\nentry vector 0x41\ncall ok 0x0\n";
     assert_eq!(play_text(trace.as_bytes()), output);
 }
@@ -32,8 +33,23 @@ fn numbers() {
     for (word, value) in good {
         assert_eq!(number(word.as_bytes()), Some(value), "{word}");
     }
-    let bad = ["", "0x", "0X1", "x1", "1f", "-1", "+1", "1_0", "0x1g", "0x-1", "1.0", "١",
-        "18446744073709551616", "0x10000000000000000", "00x1"];
+    let bad = [
+        "",
+        "0x",
+        "0X1",
+        "x1",
+        "1f",
+        "-1",
+        "+1",
+        "1_0",
+        "0x1g",
+        "0x-1",
+        "1.0",
+        "١",
+        "18446744073709551616",
+        "0x10000000000000000",
+        "00x1",
+    ];
     for word in bad {
         assert_eq!(number(word.as_bytes()), None, "{word}");
     }
@@ -41,13 +57,33 @@ fn numbers() {
 
 #[test]
 fn words_and_spaces() {
-    for line in ["state", "  state  ", "entry   0x0 01 0x0    0 ", "start 0xFFFFFFFF 4294967295"] {
+    for line in [
+        "state",
+        "  state  ",
+        "entry   0x0 01 0x0    0 ",
+        "start 0xFFFFFFFF 4294967295",
+    ] {
         assert!(readable(line), "{line}");
     }
-    let bad = ["state 0", "State", "start 1", "start 1 1 1", "start 4294967296 1", "call 0 0 0",
-        "call 0 0x100000000 0 0", "call 0 0 4294967296 0", "entry 0 2 0 0", "nondelivery",
-        "nondelivery 0 0", "handback 0 1 0", "handback 0 1 2 256", "state\r", "\tstate",
-        "entry\t0 1 0 0", " # comment"];
+    let bad = [
+        "state 0",
+        "State",
+        "start 1",
+        "start 1 1 1",
+        "start 4294967296 1",
+        "call 0 0 0",
+        "call 0 0x100000000 0 0",
+        "call 0 0 4294967296 0",
+        "entry 0 2 0 0",
+        "nondelivery",
+        "nondelivery 0 0",
+        "handback 0 1 0",
+        "handback 0 1 2 256",
+        "state\r",
+        "\tstate",
+        "entry\t0 1 0 0",
+        " # comment",
+    ];
     for line in bad {
         assert_eq!(read(line.as_bytes()), Line::Unreadable, "{line}");
     }
@@ -62,14 +98,27 @@ fn pages() {
     page[3] = 1;
     page[299] = 255;
     let event = Event::Notice { vcpu: 1, page };
-    for line in ["notice 1 300 3=1 299=255", "notice 1 0x12c 0x12B=0xff 3=9 0003=1 4=7 4=0"] {
+    for line in [
+        "notice 1 300 3=1 299=255",
+        "notice 1 0x12c 0x12B=0xff 3=9 0003=1 4=7 4=0",
+    ] {
         assert_eq!(read(line.as_bytes()), Line::Event(event.clone()), "{line}");
     }
     assert!(readable("notice 0 0"));
     assert!(readable("notice 0 4096 4095=1"));
-    let bad = ["notice 0", "notice 0 4097", "notice 0 0 0=0", "notice 0 256 256=0",
-        "notice 0 256 3=256", "notice 0 256 3", "notice 0 256 3=", "notice 0 256 =3",
-        "notice 0 256 3==1", "notice 0 256 3=1=1", "notice 0 256 3 = 1"];
+    let bad = [
+        "notice 0",
+        "notice 0 4097",
+        "notice 0 0 0=0",
+        "notice 0 256 256=0",
+        "notice 0 256 3=256",
+        "notice 0 256 3",
+        "notice 0 256 3=",
+        "notice 0 256 =3",
+        "notice 0 256 3==1",
+        "notice 0 256 3=1=1",
+        "notice 0 256 3 = 1",
+    ];
     for line in bad {
         assert_eq!(read(line.as_bytes()), Line::Unreadable, "{line}");
     }
@@ -111,7 +160,8 @@ fn before_the_first_start() {
 
 #[test]
 fn state_lines() {
-    let trace = "start 1 3\ncall 0 4 0x161 0\ncall 0 4 0x102 0\nnotice 0 257 3=4 192=0x61 193=5 256=9\n\
+    let trace =
+        "start 1 3\ncall 0 4 0x161 0\ncall 0 4 0x102 0\nnotice 0 257 3=4 192=0x61 193=5 256=9\n\
         call 0 3 0x83f 255\ncall 0 3 0x808 0x10\nentry 0 1 0 1\nstate\n";
     let output = "start ok\ncall ok 0x0\ncall ok 0x0\nnotice ok 0x2 page 0x100=0x9\ncall ok 0x1\n\
         call ok 0x0\nentry vector 0xff\nmodule n=0x1 vmpl=0x3 count=0x1\n\

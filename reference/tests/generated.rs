@@ -38,7 +38,9 @@ fn a_trace_holds_its_events() {
 
 #[test]
 fn everything_occurs() {
-    let output: String = (0..4).map(|seed| play_text(&generated(seed, 15_000))).collect();
+    let output: String = (0..4)
+        .map(|seed| play_text(&generated(seed, 15_000)))
+        .collect();
     let coverage = Coverage::of(output.as_bytes()).unwrap();
     assert!(coverage.complete(), "{}", coverage.report());
 }
@@ -46,7 +48,7 @@ fn everything_occurs() {
 #[test]
 fn the_corners_occur() {
     let (mut sizes, mut calls, mut registers) = (BTreeSet::new(), BTreeSet::new(), BTreeSet::new());
-    for event in lists(3, 60_000).into_iter().flatten() {
+    for event in lists(3, 150_000).into_iter().flatten() {
         match event {
             Event::Start { n, vmpl } => {
                 sizes.extend([(0, n), (1, vmpl)]);
@@ -58,7 +60,9 @@ fn the_corners_occur() {
             _ => {}
         }
     }
-    assert!([0, 1, 2, 18, 32, 33].iter().all(|&n| sizes.contains(&(0, n))));
+    assert!([0, 1, 2, 18, 32, 33]
+        .iter()
+        .all(|&n| sizes.contains(&(0, n))));
     assert!((0..=4).all(|vmpl| sizes.contains(&(1, vmpl))));
     assert!((0..=5).all(|call| calls.contains(&call)));
     assert!((0x7FF..=0x900).all(|register| registers.contains(&register)));

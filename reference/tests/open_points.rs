@@ -22,19 +22,33 @@ fn every_event_is_unknown(m: &mut Module) {
     assert_eq!(call(m, 0, 0, 0, 0), Err(UNKNOWN_VCPU));
     assert_eq!(entry(m, 0, true, false, false), Err(UNKNOWN_VCPU));
     assert_eq!(non_delivery(m, 0), Err(UNKNOWN_VCPU));
-    assert_eq!(hand_back(m, 0, &mut page(&[]), true, false), Err(UNKNOWN_VCPU));
+    assert_eq!(
+        hand_back(m, 0, &mut page(&[]), true, false),
+        Err(UNKNOWN_VCPU)
+    );
     assert_eq!(*m, before);
 }
 
 /// "Start is refused unless n is 1 to 32 and L is 1 to 3"; no number is cut to a narrower one.
 #[test]
 fn start_takes_whole_numbers() {
-    for (n, l) in [(0, 1), (33, 1), (256 + 2, 1), (u32::MAX, 1), (2, 0), (2, 4), (2, 257)] {
+    for (n, l) in [
+        (0, 1),
+        (33, 1),
+        (256 + 2, 1),
+        (u32::MAX, 1),
+        (2, 0),
+        (2, 4),
+        (2, 257),
+    ] {
         assert_eq!(start(n, l), (Err(BAD_START), Module::refused()));
     }
     for (n, l) in [(1, 1), (32, 3), (18, 2)] {
         let (answer, m) = start(n, l);
-        assert_eq!((answer, m.n, m.vmpl, m.count, m.records.len()), (Ok(()), n, l, 1, n as usize));
+        assert_eq!(
+            (answer, m.n, m.vmpl, m.count, m.records.len()),
+            (Ok(()), n, l, 1, n as usize)
+        );
     }
 }
 
@@ -155,7 +169,10 @@ fn items_count_each_time_and_226_is_most() {
     for _ in 0..2 {
         assert_eq!(notice(&mut m, 0, &mut [0xFF; 256]), Ok(226));
     }
-    assert_eq!(m.records[0].pending.members(), (31..=255).collect::<Vec<usize>>());
+    assert_eq!(
+        m.records[0].pending.members(),
+        (31..=255).collect::<Vec<usize>>()
+    );
     assert_eq!(m.records[0].pending_level, set(&[255]));
     assert!(m.records[0].nmi);
 }
@@ -165,7 +182,10 @@ fn items_count_each_time_and_226_is_most() {
 fn vector_2_is_only_the_nmi() {
     let mut m = allowing(&[2]);
     assert_eq!(notice(&mut m, 0, &mut page(&[(3, 1), (64, 2)])), Ok(0));
-    assert_eq!(notice(&mut m, 0, &mut page(&[(3, 1), (64, 2), (65, 4)])), Ok(0));
+    assert_eq!(
+        notice(&mut m, 0, &mut page(&[(3, 1), (64, 2), (65, 4)])),
+        Ok(0)
+    );
     assert_eq!(m, allowing(&[2]));
     assert_eq!(notice(&mut m, 0, &mut page(&[(3, 1), (65, 1)])), Ok(1));
     assert!(m.records[0].nmi);
@@ -181,7 +201,10 @@ fn what_forgets_what_is_in_flight() {
     assert_eq!(call(&mut m, 0, 4, 0x11E, 0), Err(BAD_VALUE));
     assert_eq!(notice(&mut m, 0, &mut page(&[(3, 1), (65, 1)])), Ok(0));
     assert_eq!(write(&mut m, 1, 0x830, 0x4041), Ok(1));
-    assert_eq!(hand_back(&mut m, 0, &mut page(&[]), true, false), Err(NOT_LEAVING));
+    assert_eq!(
+        hand_back(&mut m, 0, &mut page(&[]), true, false),
+        Err(NOT_LEAVING)
+    );
     assert_eq!(m.records[0].flight, NMI);
 
     let mut by_call = m.clone();
@@ -192,7 +215,10 @@ fn what_forgets_what_is_in_flight() {
     assert_eq!(by_leaving.records[0].phase, Phase::Leaving);
     assert_eq!(by_leaving.records[0].flight, None);
     let mut by_entry = m.clone();
-    assert_eq!(entry(&mut by_entry, 0, false, false, false), Ok(Shown::Window(0x41)));
+    assert_eq!(
+        entry(&mut by_entry, 0, false, false, false),
+        Ok(Shown::Window(0x41))
+    );
     assert_eq!(by_entry.records[0].flight, None);
     assert_eq!(non_delivery(&mut by_entry, 0), Err(NOTHING_IN_FLIGHT));
 }
@@ -242,7 +268,10 @@ fn shorthands_and_nmi_vectors() {
     assert_eq!(write(&mut m, 3, 0x830, 0x0000_0001_0008_4841), Ok(0x3_FFFF));
     assert_eq!(write(&mut m, 3, 0x830, 0x0000_0003_000C_4041), Ok(0x3_FFF7));
     for vector in [0, 2, 30, 255] {
-        assert_eq!(write(&mut m, 3, 0x830, 0x0000_0011_0000_4400 + vector), Ok(1 << 17));
+        assert_eq!(
+            write(&mut m, 3, 0x830, 0x0000_0011_0000_4400 + vector),
+            Ok(1 << 17)
+        );
     }
     assert!(m.records[17].nmi);
 }
@@ -297,7 +326,10 @@ fn a_held_nmi_lets_vectors_pass() {
     assert_eq!(entry(&mut m, 0, true, false, true), Ok(Shown::Nothing));
     m.records[0].pending = set(&[0x41]);
     assert_eq!(entry(&mut m, 0, true, true, false), Ok(Shown::Window(0x41)));
-    assert_eq!(entry(&mut m, 0, false, false, true), Ok(Shown::Window(0x41)));
+    assert_eq!(
+        entry(&mut m, 0, false, false, true),
+        Ok(Shown::Window(0x41))
+    );
     assert_eq!(entry(&mut m, 0, true, false, true), presented(0x41));
     assert!(m.records[0].nmi);
     assert_eq!(entry(&mut m, 0, false, false, false), PRESENTED_NMI);

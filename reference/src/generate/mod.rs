@@ -16,7 +16,9 @@ use crate::random::Random;
 use crate::state::{Item, Module, Phase};
 
 /// Vectors at the borders of a rule, and the one this gate was built for.
-const CORNERS: [usize; 14] = [2, 30, 31, 32, 47, 48, 0x41, 0x4F, 0x50, 0x80, 0x81, 0xEF, 254, 255];
+const CORNERS: [usize; 14] = [
+    2, 30, 31, 32, 47, 48, 0x41, 0x4F, 0x50, 0x80, 0x81, 0xEF, 254, 255,
+];
 
 /// How often each kind of event comes in one list, in the order of `Generator::choose`.
 type Style = [usize; 11];
@@ -60,7 +62,7 @@ impl Generator {
         }
     }
 
-    pub fn next(&mut self) -> Event {
+    pub fn next_event(&mut self) -> Event {
         if self.left == 0 {
             self.begin_list();
         }
@@ -107,11 +109,11 @@ impl Generator {
             2 => 18,
             3 => 32,
             4 => r.between(3, 31) as u32,
-            _ => r.pick(&[0, 33, 34, 255, 256, 257, 258, 0x1_0002, u32::MAX]),
+            _ => r.pick(&[0, 0, 33, 33, 34, 256, 257, 258, 0x1_0002, u32::MAX]),
         };
-        let vmpl = match r.chance(92) {
+        let vmpl = match r.chance(88) {
             true => r.between(1, 3) as u32,
-            false => r.pick(&[0, 4, 5, 256, 257, 0x1_0001, u32::MAX]),
+            false => r.pick(&[0, 0, 4, 4, 5, 257, 258, 0x1_0001, u32::MAX]),
         };
         (n, vmpl)
     }
@@ -140,7 +142,10 @@ impl Generator {
             self.queue.push_back(calls::allow(0, v, true));
         }
         let full = self.full_page();
-        self.queue.push_back(Event::Notice { vcpu: 0, page: full });
+        self.queue.push_back(Event::Notice {
+            vcpu: 0,
+            page: full,
+        });
     }
 
     fn choose(&mut self) -> Event {
@@ -152,7 +157,10 @@ impl Generator {
         }
         let vcpu = self.vcpu();
         match self.random.weighted(&self.style.clone()) {
-            0 => Event::Notice { vcpu, page: self.notice_page(vcpu) },
+            0 => Event::Notice {
+                vcpu,
+                page: self.notice_page(vcpu),
+            },
             1 => self.read(vcpu),
             2 => self.write(vcpu),
             3 => self.icr_write(vcpu),
@@ -171,21 +179,48 @@ impl Generator {
         let mut active = self.in_phase(Phase::Active);
         active.push(self.vcpu());
         let vcpu = self.random.pick(&active);
+        let alone = self.random.chance(30);
         for _ in 0..self.random.between(1, 4) {
-            let page = self.notice_page(vcpu);
+            let item = Item::Vector(self.vector(vcpu));
+            let page = if alone {
+                self.level_page(item)
+            } else {
+                self.notice_page(vcpu)
+            };
             self.queue.push_back(Event::Notice { vcpu, page });
         }
-        let more = [self.plain_entry(vcpu), self.write(vcpu), self.entry(vcpu), self.icr_write(vcpu)];
-        self.queue.extend(more.into_iter().filter(|_| self.random.chance(60)));
+        let more = [
+            self.plain_entry(vcpu),
+            self.write(vcpu),
+            self.entry(vcpu),
+            self.icr_write(vcpu),
+        ];
+        self.queue
+            .extend(more.into_iter().filter(|_| self.random.chance(60)));
         for _ in 0..self.module.count.clamp(1, 6) {
-            self.queue.push_back(Event::Call { vcpu, call: 1, ecx: 1, rdx: 0 });
+            self.queue.push_back(Event::Call {
+                vcpu,
+                call: 1,
+                ecx: 1,
+                rdx: 0,
+            });
         }
-        let late = [self.entry(vcpu), Event::NonDelivery { vcpu }, self.hand_back()];
-        self.queue.extend(late.into_iter().filter(|_| self.random.chance(25)));
+        let late = [
+            self.entry(vcpu),
+            Event::NonDelivery { vcpu },
+            self.hand_back(),
+        ];
+        self.queue
+            .extend(late.into_iter().filter(|_| self.random.chance(25)));
         for _ in 0..self.random.between(1, 2) {
             let (if_set, shadow) = (self.random.chance(50), self.random.chance(50));
             let page = self.hand_back_page();
-            self.queue.push_back(Event::HandBack { vcpu, if_set, shadow, page });
+            self.queue.push_back(Event::HandBack {
+                vcpu,
+                if_set,
+                shadow,
+                page,
+            });
         }
         self.left += self.queue.len();
         calls::allow(vcpu, 2, true)
@@ -193,7 +228,8 @@ impl Generator {
 
     /// Events that belong behind the one just played.
     fn follow(&mut self, event: &Event, answer: &Answer) {
-        let (Event::Entry { vcpu, .. }, Answer::Entry(Ok(Shown::Presented(item)))) = (event, answer)
+        let (Event::Entry { vcpu, .. }, Answer::Entry(Ok(Shown::Presented(item)))) =
+            (event, answer)
         else {
             return;
         };
@@ -207,7 +243,10 @@ impl Generator {
     /// A non-delivery, sometimes with something between the entry and it.
     fn intercepted(&mut self, vcpu: u32, item: Item) {
         let between = match self.random.below(6) {
-            0 => Some(Event::Notice { vcpu, page: self.page_with(vcpu, item) }),
+            0 => Some(Event::Notice {
+                vcpu,
+                page: self.page_with(vcpu, item),
+            }),
             1 => Some(self.send_to(vcpu, item)),
             2 => Some(self.odd_call(vcpu)),
             3 => Some(self.read(vcpu)),
@@ -223,23 +262,44 @@ impl Generator {
     fn entry(&mut self, vcpu: u32) -> Event {
         let r = &mut self.random;
         let (if_set, shadow, blocked) = (r.chance(80), r.chance(15), r.chance(20));
-        Event::Entry { vcpu, if_set, shadow, blocked }
+        Event::Entry {
+            vcpu,
+            if_set,
+            shadow,
+            blocked,
+        }
     }
 
     fn plain_entry(&self, vcpu: u32) -> Event {
-        Event::Entry { vcpu, if_set: true, shadow: false, blocked: false }
+        Event::Entry {
+            vcpu,
+            if_set: true,
+            shadow: false,
+            blocked: false,
+        }
     }
 
     fn hand_back(&mut self) -> Event {
         let leaving: Vec<u32> = self.in_phase(Phase::Leaving);
         let aimed = !leaving.is_empty() && self.random.chance(80);
-        let vcpu = if aimed { self.random.pick(&leaving) } else { self.vcpu() };
+        let vcpu = if aimed {
+            self.random.pick(&leaving)
+        } else {
+            self.vcpu()
+        };
         let (if_set, shadow) = (self.random.chance(50), self.random.chance(50));
-        Event::HandBack { vcpu, if_set, shadow, page: self.hand_back_page() }
+        Event::HandBack {
+            vcpu,
+            if_set,
+            shadow,
+            page: self.hand_back_page(),
+        }
     }
 
     fn in_phase(&self, phase: Phase) -> Vec<u32> {
-        (0..self.module.n).filter(|&id| self.module.record(id).phase == phase).collect()
+        (0..self.module.n)
+            .filter(|&id| self.module.record(id).phase == phase)
+            .collect()
     }
 
     fn anyone_active(&self) -> bool {
@@ -253,14 +313,29 @@ impl Generator {
         match r.weighted(&[70, 26, 4]) {
             0 => r.pick(&self.focus),
             1 => r.below(n.max(1) as usize) as u32,
-            _ => r.pick(&[n, n + 1, 31, 32, 33, 255, 256, 0x1_0000, 0x8000_0000, u32::MAX]),
+            _ => r.pick(&[
+                n,
+                n + 1,
+                31,
+                32,
+                33,
+                255,
+                256,
+                0x1_0000,
+                0x8000_0000,
+                u32::MAX,
+            ]),
         }
     }
 
     /// A vector of any size: from the pool, a corner, one of the vCPU's sets, or any.
     fn vector(&mut self, vcpu: u32) -> usize {
         let sets = match self.module.records.get(vcpu as usize) {
-            Some(r) => [r.allowed.members(), r.pending.members(), r.service.members()],
+            Some(r) => [
+                r.allowed.members(),
+                r.pending.members(),
+                r.service.members(),
+            ],
             None => [vec![], vec![], vec![]],
         };
         let r = &mut self.random;
@@ -286,7 +361,7 @@ pub fn generate(seed: u64, count: usize, out: &mut impl Write) -> Result<()> {
     let mut odd = Random::new(seed ^ 0x6F64_6421);
     writeln!(out, "# generate {seed} {count}")?;
     for _ in 0..count {
-        let event = generator.next();
+        let event = generator.next_event();
         if matches!(event, Event::Start { .. }) {
             writeln!(out, "state")?;
         }
@@ -306,12 +381,14 @@ pub fn lists(seed: u64, count: usize) -> Vec<Vec<Event>> {
     let mut generator = Generator::new(seed);
     let mut lists: Vec<Vec<Event>> = Vec::new();
     for _ in 0..count {
-        let event = generator.next();
+        let event = generator.next_event();
         if matches!(event, Event::Start { .. }) {
             lists.push(Vec::new());
         }
-        lists.last_mut().expect("a trace begins with start").push(event);
+        lists
+            .last_mut()
+            .expect("a trace begins with start")
+            .push(event);
     }
     lists
 }
-

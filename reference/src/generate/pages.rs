@@ -110,19 +110,34 @@ impl Generator {
         page
     }
 
-    /// Announces one item, as edge, level-sensitive or marked.
-    pub(super) fn page_with(&mut self, vcpu: u32, item: Item) -> Vec<u8> {
+    /// Announces one item and nothing else, a vector level-sensitive.
+    pub(super) fn level_page(&self, item: Item) -> Vec<u8> {
+        let mut page = self.single_page(item);
+        if let Item::Vector(_) = item {
+            set_bit(&mut page, descriptor(self.module.vmpl), 10);
+        }
+        page
+    }
+
+    fn single_page(&self, item: Item) -> Vec<u8> {
         let vmpl = self.module.vmpl;
         let start = descriptor(vmpl);
         let mut page = vec![0; 256];
         set_bit(&mut page, 2, 7 + vmpl as usize);
+        match item {
+            Item::Nmi => set_bit(&mut page, start, 8),
+            Item::Vector(v) => page[start] = v as u8,
+        }
+        page
+    }
+
+    /// Announces one item, as edge, level-sensitive or marked.
+    pub(super) fn page_with(&mut self, vcpu: u32, item: Item) -> Vec<u8> {
+        let start = descriptor(self.module.vmpl);
+        let mut page = self.single_page(item);
         match (item, self.random.below(3)) {
-            (Item::Nmi, _) => set_bit(&mut page, start, 8),
-            (Item::Vector(v), 0) => page[start] = v as u8,
-            (Item::Vector(v), 1) => {
-                page[start] = v as u8;
-                set_bit(&mut page, start, 10);
-            }
+            (Item::Nmi, _) | (_, 0) => {}
+            (_, 1) => page = self.level_page(item),
             (Item::Vector(v), _) => {
                 page[start] = self.vector(vcpu) as u8;
                 set_bit(&mut page, start, 14);
@@ -147,7 +162,9 @@ fn scatter(r: &mut Random, page: &mut [u8]) {
     let last = page.len() - 1;
     for _ in 0..r.between(1, 6) {
         let at = match r.below(4) {
-            0 => r.pick(&[0, 1, 2, 3, 63, 64, 95, 96, 127, 128, 191, 192, 223, 255, 256]),
+            0 => r.pick(&[
+                0, 1, 2, 3, 63, 64, 95, 96, 127, 128, 191, 192, 223, 255, 256,
+            ]),
             1 => last,
             _ => r.below(page.len()),
         };

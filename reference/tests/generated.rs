@@ -6,8 +6,9 @@ use reference::coverage::Coverage;
 use reference::demand3::{check, Gate};
 use reference::events::{step, Answer, Event, Shown};
 use reference::generate::{generate, lists};
-use reference::page::announces;
+use reference::page::{admitted, announces, set_bit};
 use reference::play::play_text;
+use reference::set::VectorSet;
 use reference::state::{Item, Module, Phase};
 use reference::trace::{read, Line};
 
@@ -132,7 +133,7 @@ fn refused_notice_remembered(m: &mut Module, event: &mut Event) -> Answer {
 fn forgets_early(m: &mut Module, event: &mut Event) -> Answer {
     let answer = step(m, event);
     for record in m.records.iter_mut().filter(|r| r.phase == Phase::Leaving) {
-        record.allowed = reference::set::VectorSet::empty();
+        record.allowed = VectorSet::empty();
     }
     answer
 }
@@ -144,4 +145,43 @@ fn wrong_gates_are_found() {
     assert!(fails(presented_twice));
     assert!(fails(refused_notice_remembered));
     assert!(fails(forgets_early));
+}
+
+/// Demand 2: a descriptor handed back, read again with work announced and everything allowed,
+/// gives the NMI, the edge set and the highest level-sensitive vector that were pending.
+#[test]
+fn a_hand_back_reads_back() {
+    let mut m = Module::refused();
+    let mut seen = 0;
+    for mut event in lists(4, 60_000).into_iter().flatten() {
+        let before = m.clone();
+        let answer = step(&mut m, &mut event);
+        let (Event::HandBack { vcpu, page, .. }, Answer::HandBack(Ok(_))) = (&mut event, answer)
+        else {
+            continue;
+        };
+        set_bit(page, 2, 7 + m.vmpl as usize);
+        let part = admitted(page, m.vmpl, &VectorSet::all());
+        let record = before.record(*vcpu);
+        assert_eq!(part.nmi, record.nmi);
+        assert_eq!(part.level, record.pending_level.highest());
+        assert_eq!(part.edge, record.pending.without(&record.pending_level));
+        seen += 1;
+    }
+    assert!(seen > 50);
+}
+
+/// "P and S hold only 31 to 255, PL lies within P and SL within S."
+#[test]
+fn what_holds_of_every_module_reached() {
+    let mut m = Module::refused();
+    for mut event in lists(5, 20_000).into_iter().flatten() {
+        step(&mut m, &mut event);
+        for record in &m.records {
+            let either = record.pending.joined(&record.service);
+            assert!((0..31).all(|v| !either.has(v)));
+            assert!(record.pending_level.without(&record.pending).is_empty());
+            assert!(record.serving_level.without(&record.service).is_empty());
+        }
+    }
 }

@@ -1,0 +1,88 @@
+//! The book of "The lists of demand 3": what the guest has allowed, told from the events'
+//! arguments and page lengths. It is fed no byte of a page and no answer.
+
+use crate::calls::allow_rule;
+use crate::set::VectorSet;
+use crate::state::{Module, Phase};
+
+/// One event as the book sees it; kinds that change nothing are left out.
+pub enum Entry {
+    Call { vcpu: u32, call: u32, ecx: u32 },
+    HandBack { vcpu: u32, length: usize },
+}
+
+#[derive(Clone, PartialEq, Eq, Debug)]
+pub struct Page {
+    pub phase: Phase,
+    pub allowed: VectorSet,
+}
+
+#[derive(Clone, PartialEq, Eq, Debug)]
+pub struct Book {
+    pub n: u32,
+    pub count: u8,
+    pub vcpus: Vec<Page>,
+}
+
+impl Book {
+    /// "At first as in that module": what start gives, refused or not.
+    pub fn of(m: &Module) -> Book {
+        let page = |r: &crate::state::Record| Page {
+            phase: r.phase,
+            allowed: r.allowed.clone(),
+        };
+        Book {
+            n: m.n,
+            count: m.count,
+            vcpus: m.records.iter().map(page).collect(),
+        }
+    }
+
+    pub fn active(&self, vcpu: u32) -> bool {
+        vcpu < self.n && self.vcpus[vcpu as usize].phase == Phase::Active
+    }
+
+    pub fn enter(&mut self, entry: &Entry) {
+        match *entry {
+            Entry::Call { vcpu, call: 1, ecx } if self.active(vcpu) => self.registration(vcpu, ecx),
+            Entry::Call { vcpu, call: 4, ecx } if self.active(vcpu) => self.allow(vcpu, ecx),
+            Entry::Call { .. } => {}
+            Entry::HandBack { vcpu, length } => self.hand_back(vcpu, length),
+        }
+    }
+
+    fn registration(&mut self, vcpu: u32, ecx: u32) {
+        if ecx == 1 && self.count != 0 {
+            self.count -= 1;
+        }
+        if ecx <= 1 && self.count == 0 {
+            self.vcpus[vcpu as usize].phase = Phase::Leaving;
+        }
+        if ecx == 2 && (1..=254).contains(&self.count) {
+            self.count += 1;
+        }
+    }
+
+    fn allow(&mut self, vcpu: u32, ecx: u32) {
+        let set = &mut self.vcpus[vcpu as usize].allowed;
+        if !allow_rule(ecx) {
+            return;
+        }
+        if ecx >= 256 {
+            set.put((ecx - 256) as usize);
+        } else {
+            set.take(ecx as usize);
+        }
+    }
+
+    fn hand_back(&mut self, vcpu: u32, length: usize) {
+        if vcpu >= self.n || length < 256 {
+            return;
+        }
+        let page = &mut self.vcpus[vcpu as usize];
+        if page.phase == Phase::Leaving {
+            page.allowed = VectorSet::empty();
+            page.phase = Phase::Left;
+        }
+    }
+}

@@ -1,0 +1,110 @@
+//! Which answers and codes occur in an output.
+
+use std::collections::BTreeMap;
+use std::io::{BufRead, Result};
+
+use crate::lines::Lines;
+
+/// Every line that document 01 lets an event have, its number left out.
+const EXPECTED: [&str; 31] = [
+    "start ok",
+    "start refused 0x5",
+    "notice ok",
+    "notice refused 0x1",
+    "notice refused 0x80000001",
+    "notice refused 0x2",
+    "call ok",
+    "call refused 0x1",
+    "call refused 0x80000001",
+    "call refused 0x80000002",
+    "call refused 0x80000003",
+    "call refused 0x80000005",
+    "call refused 0x80000007",
+    "call refused 0x80001000",
+    "entry nothing",
+    "entry nmi",
+    "entry vector",
+    "entry window",
+    "entry refused 0x1",
+    "entry refused 0x80000001",
+    "nondelivery ok",
+    "nondelivery refused 0x1",
+    "nondelivery refused 0x80000001",
+    "nondelivery refused 0x4",
+    "handback ok",
+    "handback refused 0x1",
+    "handback refused 0x3",
+    "handback refused 0x2",
+    "error line",
+    "module",
+    "vcpu",
+];
+
+pub struct Coverage {
+    counts: BTreeMap<String, u64>,
+}
+
+/// The kind of a line: what of it does not depend on a number, but for codes.
+fn kind(line: &str) -> String {
+    let words: Vec<&str> = line.split(' ').collect();
+    match words.as_slice() {
+        ["module", ..] | ["vcpu", ..] => words[0].to_string(),
+        [event, "refused", code, ..] => format!("{event} refused {code}"),
+        [event, answer, ..] => format!("{event} {answer}"),
+        _ => line.to_string(),
+    }
+}
+
+impl Coverage {
+    pub fn of(output: impl BufRead) -> Result<Coverage> {
+        let mut lines = Lines::new(output);
+        let mut line = Vec::new();
+        let mut counts = BTreeMap::new();
+        while lines.next(&mut line)? {
+            *counts
+                .entry(kind(&String::from_utf8_lossy(&line)))
+                .or_insert(0) += 1;
+        }
+        Ok(Coverage { counts })
+    }
+
+    pub fn missing(&self) -> Vec<&'static str> {
+        EXPECTED
+            .into_iter()
+            .filter(|&kind| !self.counts.contains_key(kind))
+            .collect()
+    }
+
+    /// Lines that no event may have.
+    pub fn unexpected(&self) -> Vec<&str> {
+        let known = |kind: &str| EXPECTED.contains(&kind);
+        self.counts
+            .keys()
+            .map(|kind| kind.as_str())
+            .filter(|kind| !known(kind))
+            .collect()
+    }
+
+    pub fn complete(&self) -> bool {
+        self.missing().is_empty() && self.unexpected().is_empty()
+    }
+
+    pub fn report(&self) -> String {
+        let mut text = String::new();
+        for kind in EXPECTED {
+            let count = self.counts.get(kind).copied().unwrap_or(0);
+            text += &format!("{count:>9} {kind}\n");
+        }
+        text += &listed("missing", &self.missing());
+        text += &listed("not among the answers", &self.unexpected());
+        text
+    }
+}
+
+fn listed(title: &str, kinds: &[&str]) -> String {
+    if kinds.is_empty() {
+        format!("{title}: none\n")
+    } else {
+        format!("{title}: {}\n", kinds.join(", "))
+    }
+}

@@ -1,0 +1,257 @@
+//! Demand 3, checked on generated lists.
+//!
+//! (a) A list and its twin, equal but for bytes of notice pages with equal admitted parts under the
+//! book, give equal results, equal pages after hand-backs and the same final module.
+//! (b) Each vector and the NMI is presented on each vCPU at most as often as it was admitted, sent
+//! and returned there. Every beginning of a list is a list, so this is checked after each event.
+
+use crate::book::{Book, Entry};
+use crate::events::{Answer, Event, Shown};
+use crate::generate;
+use crate::icr;
+use crate::page::{admitted, Admitted};
+use crate::random::Random;
+use crate::registers::{ICR, SELF_IPI};
+use crate::set::VectorSet;
+use crate::state::{start, Item, Module};
+use crate::twin;
+
+/// Anything that answers events: the reference, or a wrong gate in a test of this check.
+pub type Gate = fn(&mut Module, &mut Event) -> Answer;
+
+/// What demand 3 compares.
+#[derive(PartialEq, Eq, Debug)]
+pub struct Played {
+    pub answers: Vec<Answer>,
+    pub hand_back_pages: Vec<Vec<u8>>,
+    pub module: Module,
+}
+
+pub fn played(list: &[Event], gate: Gate) -> Played {
+    let mut p = Played {
+        answers: vec![],
+        hand_back_pages: vec![],
+        module: Module::refused(),
+    };
+    for event in list {
+        let mut event = event.clone();
+        p.answers.push(gate(&mut p.module, &mut event));
+        if let Event::HandBack { page, .. } = event {
+            p.hand_back_pages.push(page);
+        }
+    }
+    p
+}
+
+/// The book and the VMPL at the beginning of a list; the list's first event is its start.
+pub fn opened(list: &[Event]) -> (Book, u32) {
+    let Some(Event::Start { n, vmpl }) = list.first() else {
+        panic!("a list begins with start");
+    };
+    let (_, module) = start(*n, *vmpl);
+    (Book::of(&module), module.vmpl)
+}
+
+/// What of an event the book is fed.
+pub fn entry_of(event: &Event) -> Option<Entry> {
+    match event {
+        Event::Call {
+            vcpu, call, ecx, ..
+        } => Some(Entry::Call {
+            vcpu: *vcpu,
+            call: *call,
+            ecx: *ecx,
+        }),
+        Event::HandBack { vcpu, page, .. } => Some(Entry::HandBack {
+            vcpu: *vcpu,
+            length: page.len(),
+        }),
+        _ => None,
+    }
+}
+
+/// The set allowed in the book if a notice on this vCPU with a page of this length is accepted.
+pub fn accepting(book: &Book, vcpu: u32, length: usize) -> Option<&VectorSet> {
+    if book.active(vcpu) && length >= 256 {
+        Some(&book.vcpus[vcpu as usize].allowed)
+    } else {
+        None
+    }
+}
+
+pub fn admitted_by_book(book: &Book, vmpl: u32, vcpu: u32, page: &[u8]) -> Admitted {
+    match accepting(book, vcpu, page.len()) {
+        Some(allowed) => admitted(page, vmpl, allowed),
+        None => Admitted::nothing(),
+    }
+}
+
+/// For one vCPU: how often each item may still be presented, and what the latest accepted entry
+/// presented. Item 256 is the NMI.
+#[derive(Clone)]
+struct Account {
+    rest: Vec<i64>,
+    latest: Option<Item>,
+}
+
+struct Counts {
+    accounts: Vec<Account>,
+}
+
+fn place(item: Item) -> usize {
+    match item {
+        Item::Vector(v) => v,
+        Item::Nmi => 256,
+    }
+}
+
+impl Counts {
+    fn gain(&mut self, vcpu: u32, item: Item) {
+        self.accounts[vcpu as usize].rest[place(item)] += 1;
+    }
+
+    fn gain_part(&mut self, vcpu: u32, part: &Admitted) {
+        let mut items: Vec<Item> = part.edge.members().into_iter().map(Item::Vector).collect();
+        items.extend(part.level.map(Item::Vector));
+        if part.nmi {
+            items.push(Item::Nmi);
+        }
+        for item in items {
+            self.gain(vcpu, item);
+        }
+    }
+
+    fn present(&mut self, vcpu: u32, shown: Shown) -> Result<(), String> {
+        let account = &mut self.accounts[vcpu as usize];
+        account.latest = None;
+        if let Shown::Presented(item) = shown {
+            account.latest = Some(item);
+            account.rest[place(item)] -= 1;
+            if account.rest[place(item)] < 0 {
+                return Err(format!("{item:?} presented too often on vCPU {vcpu}"));
+            }
+        }
+        Ok(())
+    }
+
+    fn give_back(&mut self, vcpu: u32) -> Result<(), String> {
+        let Some(item) = self.accounts[vcpu as usize].latest else {
+            return Err(format!(
+                "a non-delivery accepted on vCPU {vcpu}, nothing presented"
+            ));
+        };
+        self.gain(vcpu, item);
+        Ok(())
+    }
+
+    fn send(&mut self, book: &Book, vcpu: u32, register: u32, value: u64) {
+        for id in (0..book.n).filter(|&id| book.active(id)) {
+            match register {
+                ICR if icr::names(value, vcpu, id) => self.gain(id, icr::item(value)),
+                SELF_IPI if id == vcpu => self.gain(id, Item::Vector(value as usize)),
+                _ => {}
+            }
+        }
+    }
+
+    fn count(&mut self, book: &Book, vmpl: u32, e: &Event, a: &Answer) -> Result<(), String> {
+        match (e, a) {
+            (Event::Notice { vcpu, page }, _) => {
+                let part = admitted_by_book(book, vmpl, *vcpu, page);
+                if part != Admitted::nothing() {
+                    self.gain_part(*vcpu, &part);
+                }
+            }
+            (
+                Event::Call {
+                    vcpu,
+                    call: 3,
+                    ecx,
+                    rdx,
+                },
+                Answer::Call(Ok(_)),
+            ) => {
+                self.send(book, *vcpu, *ecx, *rdx);
+            }
+            (Event::Entry { vcpu, .. }, Answer::Entry(Ok(shown))) => self.present(*vcpu, *shown)?,
+            (Event::NonDelivery { vcpu }, Answer::NonDelivery(Ok(_))) => self.give_back(*vcpu)?,
+            _ => {}
+        }
+        Ok(())
+    }
+}
+
+/// Part (b), and that the book agrees with the module at the end.
+pub fn bounded(list: &[Event], played: &Played) -> Result<(), String> {
+    let (mut book, vmpl) = opened(list);
+    let none = Account {
+        rest: vec![0; 257],
+        latest: None,
+    };
+    let mut counts = Counts {
+        accounts: vec![none; book.n as usize],
+    };
+    for (index, (event, answer)) in list.iter().zip(&played.answers).enumerate() {
+        counts
+            .count(&book, vmpl, event, answer)
+            .map_err(|reason| format!("event {index}: {reason}"))?;
+        if let Some(entry) = entry_of(event) {
+            book.enter(&entry);
+        }
+    }
+    if book == Book::of(&played.module) {
+        Ok(())
+    } else {
+        Err("the book differs from the module at the end".to_string())
+    }
+}
+
+/// Part (a), for the list and one twin.
+pub fn alike(first: &Played, second: &Played) -> Result<(), String> {
+    let differs = first
+        .answers
+        .iter()
+        .zip(&second.answers)
+        .position(|(a, b)| a != b);
+    if let Some(index) = differs {
+        return Err(format!("event {index}: the twin's result differs"));
+    }
+    if first.hand_back_pages != second.hand_back_pages {
+        return Err("a page after a hand-back differs from the twin's".to_string());
+    }
+    if first.module != second.module {
+        return Err("the final module differs from the twin's".to_string());
+    }
+    Ok(())
+}
+
+/// Both parts for one list; says how many notice pages the twin has changed.
+pub fn check_list(list: &[Event], random: &mut Random, gate: Gate) -> Result<usize, String> {
+    let (second, changed) = twin::twin(random, list);
+    let (one, two) = (played(list, gate), played(&second, gate));
+    alike(&one, &two)?;
+    bounded(list, &one)?;
+    bounded(&second, &two)?;
+    Ok(changed)
+}
+
+/// The whole check; the text is its verdict, an error the failed one.
+pub fn check(seed: u64, count: usize, gate: Gate) -> Result<String, String> {
+    let mut random = Random::new(seed ^ 0x7477_696E);
+    let lists = generate::lists(seed, count);
+    let mut changed = 0;
+    for (index, list) in lists.iter().enumerate() {
+        changed += check_list(list, &mut random, gate)
+            .map_err(|reason| format!("seed {seed}: demand 3 FAILS in list {index}: {reason}"))?;
+    }
+    let notices = lists
+        .iter()
+        .flatten()
+        .filter(|e| matches!(e, Event::Notice { .. }))
+        .count();
+    Ok(format!(
+        "seed {seed}: demand 3 holds for {} lists of {count} events, {changed} of {notices} notice \
+         pages changed",
+        lists.len()
+    ))
+}

@@ -1,0 +1,201 @@
+//! The events: host notice, entry, non-delivery and hand-back; guest calls are in `calls`.
+
+use crate::calls;
+use crate::codes::{Code, NOTHING_IN_FLIGHT, NOT_LEAVING};
+use crate::page;
+use crate::registers::{class, ppr};
+use crate::set::VectorSet;
+use crate::state::{start, Item, Module, Phase, Record};
+
+#[derive(Clone, PartialEq, Eq, Debug)]
+pub enum Event {
+    Start {
+        n: u32,
+        vmpl: u32,
+    },
+    Notice {
+        vcpu: u32,
+        page: Vec<u8>,
+    },
+    Call {
+        vcpu: u32,
+        call: u32,
+        ecx: u32,
+        rdx: u64,
+    },
+    Entry {
+        vcpu: u32,
+        if_set: bool,
+        shadow: bool,
+        blocked: bool,
+    },
+    NonDelivery {
+        vcpu: u32,
+    },
+    HandBack {
+        vcpu: u32,
+        if_set: bool,
+        shadow: bool,
+        page: Vec<u8>,
+    },
+}
+
+/// What an accepted entry answers.
+#[derive(Clone, Copy, PartialEq, Eq, Debug)]
+pub enum Shown {
+    Nothing,
+    Presented(Item),
+    Window(usize),
+}
+
+#[derive(Clone, Copy, PartialEq, Eq, Debug)]
+pub enum Answer {
+    Start(Result<(), Code>),
+    Notice(Result<u32, Code>),
+    Call(Result<u64, Code>),
+    Entry(Result<Shown, Code>),
+    NonDelivery(Result<u32, Code>),
+    HandBack(Result<u32, Code>),
+}
+
+/// Plays one event on the module; the page stands in the event and is changed there.
+pub fn step(m: &mut Module, event: &mut Event) -> Answer {
+    match event {
+        Event::Start { n, vmpl } => {
+            let (answer, fresh) = start(*n, *vmpl);
+            *m = fresh;
+            Answer::Start(answer)
+        }
+        Event::Notice { vcpu, page } => Answer::Notice(notice(m, *vcpu, page)),
+        Event::Call {
+            vcpu,
+            call,
+            ecx,
+            rdx,
+        } => Answer::Call(calls::call(m, *vcpu, *call, *ecx, *rdx)),
+        Event::Entry {
+            vcpu,
+            if_set,
+            shadow,
+            blocked,
+        } => Answer::Entry(entry(m, *vcpu, *if_set, *shadow, *blocked)),
+        Event::NonDelivery { vcpu } => Answer::NonDelivery(non_delivery(m, *vcpu)),
+        Event::HandBack {
+            vcpu,
+            if_set,
+            shadow,
+            page,
+        } => Answer::HandBack(hand_back(m, *vcpu, page, *if_set, *shadow)),
+    }
+}
+
+pub fn notice(m: &mut Module, vcpu: u32, page: &mut [u8]) -> Result<u32, Code> {
+    m.active(vcpu)?;
+    page::long_enough(page)?;
+    if !page::announces(page, m.vmpl) {
+        return Ok(0);
+    }
+    let part = page::admitted(page, m.vmpl, &m.record(vcpu).allowed);
+    page::clear_notice(page, m.vmpl);
+
+    let record = m.record_mut(vcpu);
+    record.pending = record.pending.joined(&part.edge);
+    if let Some(v) = part.level {
+        record.pending.put(v);
+        record.pending_level.put(v);
+    }
+    if part.nmi {
+        record.nmi = true;
+    }
+    Ok(part.number())
+}
+
+pub fn entry(
+    m: &mut Module,
+    vcpu: u32,
+    if_set: bool,
+    shadow: bool,
+    blocked: bool,
+) -> Result<Shown, Code> {
+    m.active(vcpu)?;
+    let record = m.record_mut(vcpu);
+    record.flight = None;
+    if record.nmi && !shadow && !blocked {
+        record.nmi = false;
+        record.flight = Some(Item::Nmi);
+        return Ok(Shown::Presented(Item::Nmi));
+    }
+    let Some(v) = record.pending.highest() else {
+        return Ok(Shown::Nothing);
+    };
+    if class(v) <= class(ppr(record)) {
+        return Ok(Shown::Nothing);
+    }
+    if !if_set || shadow {
+        return Ok(Shown::Window(v));
+    }
+    present(record, v);
+    Ok(Shown::Presented(Item::Vector(v)))
+}
+
+/// The vector moves from P to S, and from PL to SL if there; it is in flight.
+fn present(record: &mut Record, v: usize) {
+    record.pending.take(v);
+    record.service.put(v);
+    if record.pending_level.has(v) {
+        record.pending_level.take(v);
+        record.serving_level.put(v);
+    }
+    record.flight = Some(Item::Vector(v));
+}
+
+pub fn non_delivery(m: &mut Module, vcpu: u32) -> Result<u32, Code> {
+    m.active(vcpu)?;
+    let record = m.record_mut(vcpu);
+    match record.flight {
+        None => return Err(NOTHING_IN_FLIGHT),
+        Some(Item::Nmi) => record.nmi = true,
+        Some(Item::Vector(v)) => give_back(record, v),
+    }
+    record.flight = None;
+    Ok(0)
+}
+
+/// The vector leaves S and SL and joins P, and PL if it was in SL.
+fn give_back(record: &mut Record, v: usize) {
+    record.service.take(v);
+    record.pending.put(v);
+    if record.serving_level.has(v) {
+        record.serving_level.take(v);
+        record.pending_level.put(v);
+    }
+}
+
+pub fn hand_back(
+    m: &mut Module,
+    vcpu: u32,
+    page: &mut [u8],
+    if_set: bool,
+    shadow: bool,
+) -> Result<u32, Code> {
+    m.known(vcpu)?;
+    if m.record(vcpu).phase != Phase::Leaving {
+        return Err(NOT_LEAVING);
+    }
+    page::long_enough(page)?;
+
+    let vmpl = m.vmpl;
+    let record = m.record_mut(vcpu);
+    page::write_handback(page, vmpl, record);
+    let result =
+        vmpl * 65_536 + u32::from(record.tpr) * 256 + 2 * u32::from(shadow) + u32::from(if_set);
+
+    record.allowed = VectorSet::empty();
+    record.pending = VectorSet::empty();
+    record.service = VectorSet::empty();
+    record.pending_level = VectorSet::empty();
+    record.serving_level = VectorSet::empty();
+    record.nmi = false;
+    record.phase = Phase::Left;
+    Ok(result)
+}

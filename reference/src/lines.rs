@@ -1,0 +1,38 @@
+//! Lines of an input of any length, without holding more than one line of the readable size.
+
+use std::io::{BufRead, Result};
+
+/// Readable lines have at most this many bytes, the newline not counted.
+pub const LONGEST: usize = 65_536;
+
+pub struct Lines<R> {
+    input: R,
+}
+
+impl<R: BufRead> Lines<R> {
+    pub fn new(input: R) -> Lines<R> {
+        Lines { input }
+    }
+
+    /// The next line without its newline, or nothing at the end. Of a line longer than `LONGEST`
+    /// only the first `LONGEST + 1` bytes are kept, so that its length still tells.
+    pub fn next(&mut self, line: &mut Vec<u8>) -> Result<bool> {
+        line.clear();
+        let mut any = false;
+        loop {
+            let chunk = self.input.fill_buf()?;
+            if chunk.is_empty() {
+                return Ok(any);
+            }
+            any = true;
+            let newline = chunk.iter().position(|&b| b == b'\n');
+            let end = newline.unwrap_or(chunk.len());
+            let kept = end.min(LONGEST + 1 - line.len());
+            line.extend_from_slice(&chunk[..kept]);
+            self.input.consume(newline.map_or(end, |at| at + 1));
+            if newline.is_some() {
+                return Ok(true);
+            }
+        }
+    }
+}

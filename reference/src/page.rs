@@ -1,0 +1,158 @@
+//! The doorbell page: the announcing bit, the descriptor, the admitted part of a notice, and what
+//! a hand-back writes. The functions take pages of 256 bytes or more and a VMPL of 1 to 3.
+
+use crate::codes::{Code, SHORT_PAGE};
+use crate::set::VectorSet;
+use crate::state::Record;
+
+const INJECTION_INFO: usize = 2;
+const NMI: usize = 8;
+const LEVEL: usize = 10;
+const MANY: usize = 14;
+const LOWEST: usize = 31;
+
+/// Code 2: the page is under 256 bytes.
+pub fn long_enough(page: &[u8]) -> Result<(), Code> {
+    if page.len() >= 256 {
+        Ok(())
+    } else {
+        Err(SHORT_PAGE)
+    }
+}
+
+/// Bit `number` of the little-endian number that starts at byte `start`.
+pub fn bit(page: &[u8], start: usize, number: usize) -> bool {
+    page[start + number / 8] / 2u8.pow((number % 8) as u32) % 2 == 1
+}
+
+pub fn set_bit(page: &mut [u8], start: usize, number: usize) {
+    if !bit(page, start, number) {
+        page[start + number / 8] += 2u8.pow((number % 8) as u32);
+    }
+}
+
+pub fn clear_bit(page: &mut [u8], start: usize, number: usize) {
+    if bit(page, start, number) {
+        page[start + number / 8] -= 2u8.pow((number % 8) as u32);
+    }
+}
+
+/// Where the descriptor of this VMPL starts.
+pub fn descriptor(vmpl: u32) -> usize {
+    64 * vmpl as usize
+}
+
+/// InjectionInfo is the 16-bit word at byte 2; its bit 7 + L announces work.
+pub fn announces(page: &[u8], vmpl: u32) -> bool {
+    bit(page, INJECTION_INFO, 7 + vmpl as usize)
+}
+
+/// The admitted part of a notice.
+#[derive(Clone, PartialEq, Eq, Debug)]
+pub struct Admitted {
+    pub nmi: bool,
+    pub level: Option<usize>,
+    pub edge: VectorSet,
+}
+
+impl Admitted {
+    pub fn nothing() -> Admitted {
+        Admitted {
+            nmi: false,
+            level: None,
+            edge: VectorSet::empty(),
+        }
+    }
+
+    /// The number of admitted items, the NMI counted.
+    pub fn number(&self) -> u32 {
+        let nmi = if self.nmi { 1 } else { 0 };
+        let level = if self.level.is_some() { 1 } else { 0 };
+        nmi + level + self.edge.members().len() as u32
+    }
+}
+
+/// The admitted part of an accepted notice with this page under the set allowed.
+pub fn admitted(page: &[u8], vmpl: u32, allowed: &VectorSet) -> Admitted {
+    if !announces(page, vmpl) {
+        return Admitted::nothing();
+    }
+    let start = descriptor(vmpl);
+    let vector = page[start] as usize;
+    let (level, many) = (bit(page, start, LEVEL), bit(page, start, MANY));
+    let vector_allowed = vector >= LOWEST && allowed.has(vector);
+
+    let mut part = Admitted::nothing();
+    part.nmi = bit(page, start, NMI) && allowed.has(2);
+    if level && vector_allowed {
+        part.level = Some(vector);
+    }
+    if many {
+        part.edge = marked_and_allowed(page, vmpl, allowed);
+        if level {
+            part.edge.take(vector);
+        }
+    }
+    if !level && !many && vector_allowed {
+        part.edge.put(vector);
+    }
+    part
+}
+
+fn marked_and_allowed(page: &[u8], vmpl: u32, allowed: &VectorSet) -> VectorSet {
+    let mut set = VectorSet::empty();
+    for v in LOWEST..=255 {
+        if bit(page, descriptor(vmpl), v) && allowed.has(v) {
+            set.put(v);
+        }
+    }
+    set
+}
+
+/// The page after an accepted notice that announced work.
+pub fn clear_notice(page: &mut [u8], vmpl: u32) {
+    let start = descriptor(vmpl);
+    let mut cleared: Vec<usize> = (0..=10).collect();
+    cleared.push(14);
+    if bit(page, start, MANY) {
+        cleared.extend(LOWEST..=255);
+    }
+    clear_bit(page, INJECTION_INFO, 7 + vmpl as usize);
+    for number in cleared {
+        clear_bit(page, start, number);
+    }
+}
+
+/// What a hand-back writes: the 64 bytes from byte 64 × L on, and no others.
+pub fn write_handback(page: &mut [u8], vmpl: u32, record: &Record) {
+    let start = descriptor(vmpl);
+    page[start..start + 64].fill(0);
+    if let Some(vector) = record.pending_level.highest() {
+        page[start] = vector as u8;
+        set_bit(page, start, LEVEL);
+    }
+    if record.nmi {
+        set_bit(page, start, NMI);
+    }
+    let edge = record.pending.without(&record.pending_level);
+    if write_vectors(page, start, &edge) {
+        set_bit(page, start, MANY);
+    }
+    write_vectors(
+        page,
+        start + 32,
+        &record.service.without(&record.serving_level),
+    );
+}
+
+/// Sets the bits of the members 31 to 255 and says whether there are any.
+fn write_vectors(page: &mut [u8], start: usize, set: &VectorSet) -> bool {
+    let mut any = false;
+    for v in LOWEST..=255 {
+        if set.has(v) {
+            set_bit(page, start, v);
+            any = true;
+        }
+    }
+    any
+}

@@ -1,0 +1,135 @@
+//! Printing answers, modules and events in the trace format.
+
+use std::fmt::{Display, LowerHex, Write};
+
+use crate::codes::Code;
+use crate::events::{Answer, Event, Shown};
+use crate::set::VectorSet;
+use crate::state::{Item, Module, Phase, Record};
+
+/// The line for an event that was played; its page is the one after it.
+pub fn answer(event: &Event, answer: &Answer) -> String {
+    match (answer, event) {
+        (Answer::Start(Ok(())), _) => "start ok".to_string(),
+        (Answer::Start(Err(code)), _) => format!("start refused {code:#x}"),
+        (Answer::Notice(a), Event::Notice { page, .. }) => {
+            format!("notice {} page{}", outcome(a), bytes(page))
+        }
+        (Answer::Call(a), _) => format!("call {}", outcome(a)),
+        (Answer::Entry(a), _) => format!("entry {}", shown(a)),
+        (Answer::NonDelivery(a), _) => format!("nondelivery {}", outcome(a)),
+        (Answer::HandBack(a), Event::HandBack { page, .. }) => {
+            format!("handback {} page{}", outcome(a), bytes(page))
+        }
+        _ => unreachable!("an answer stands with its own event"),
+    }
+}
+
+fn outcome<T: LowerHex>(answer: &Result<T, Code>) -> String {
+    match answer {
+        Ok(value) => format!("ok {value:#x}"),
+        Err(code) => format!("refused {code:#x}"),
+    }
+}
+
+fn shown(answer: &Result<Shown, Code>) -> String {
+    match answer {
+        Ok(Shown::Nothing) => "nothing".to_string(),
+        Ok(Shown::Presented(Item::Nmi)) => "nmi".to_string(),
+        Ok(Shown::Presented(Item::Vector(v))) => format!("vector {v:#x}"),
+        Ok(Shown::Window(v)) => format!("window {v:#x}"),
+        Err(code) => format!("refused {code:#x}"),
+    }
+}
+
+/// The bytes that are not zero, in rising order.
+fn bytes(page: &[u8]) -> String {
+    let mut text = String::new();
+    for (offset, &byte) in page.iter().enumerate() {
+        if byte != 0 {
+            write!(text, " {offset:#x}={byte:#x}").unwrap();
+        }
+    }
+    text
+}
+
+/// The lines for `state`, each with its newline.
+pub fn state(m: &Module) -> String {
+    let mut text = format!(
+        "module n={:#x} vmpl={:#x} count={:#x}\n",
+        m.n, m.vmpl, m.count
+    );
+    for (id, record) in m.records.iter().enumerate() {
+        writeln!(text, "vcpu {id:#x} {}", record_text(record)).unwrap();
+    }
+    text
+}
+
+fn record_text(r: &Record) -> String {
+    let phase = match r.phase {
+        Phase::Active => "active",
+        Phase::Leaving => "leaving",
+        Phase::Left => "left",
+    };
+    let flight = match r.flight {
+        None => "nothing".to_string(),
+        Some(Item::Nmi) => "nmi".to_string(),
+        Some(Item::Vector(v)) => format!("{v:#x}"),
+    };
+    format!(
+        "phase={phase} flight={flight} nmi={:#x} tpr={:#x} icr={:#x} allowed={} pending={} \
+         service={} pending_level={} serving_level={}",
+        u8::from(r.nmi),
+        r.tpr,
+        r.icr,
+        set(&r.allowed),
+        set(&r.pending),
+        set(&r.service),
+        set(&r.pending_level),
+        set(&r.serving_level)
+    )
+}
+
+fn set(set: &VectorSet) -> String {
+    let members: Vec<String> = set.members().iter().map(|v| format!("{v:#x}")).collect();
+    format!("{{{}}}", members.join(","))
+}
+
+/// An event as a line of a trace.
+impl Display for Event {
+    fn fmt(&self, f: &mut std::fmt::Formatter<'_>) -> std::fmt::Result {
+        match self {
+            Event::Start { n, vmpl } => write!(f, "start {n} {vmpl}"),
+            Event::Notice { vcpu, page } => {
+                write!(f, "notice {vcpu} {}{}", page.len(), bytes(page))
+            }
+            Event::Call {
+                vcpu,
+                call,
+                ecx,
+                rdx,
+            } => {
+                write!(f, "call {vcpu} {call} {ecx:#x} {rdx:#x}")
+            }
+            Event::Entry {
+                vcpu,
+                if_set,
+                shadow,
+                blocked,
+            } => {
+                let [i, s, b] = [if_set, shadow, blocked].map(|flag| u8::from(*flag));
+                write!(f, "entry {vcpu} {i} {s} {b}")
+            }
+            Event::NonDelivery { vcpu } => write!(f, "nondelivery {vcpu}"),
+            Event::HandBack {
+                vcpu,
+                if_set,
+                shadow,
+                page,
+            } => {
+                let [i, s] = [if_set, shadow].map(|flag| u8::from(*flag));
+                write!(f, "handback {vcpu} {i} {s} {}{}", page.len(), bytes(page))
+            }
+        }
+    }
+}

@@ -1,0 +1,85 @@
+//! Sets of vectors, one truth value for each number 0 to 255.
+
+#[derive(Clone, PartialEq, Eq)]
+pub struct VectorSet {
+    member: [bool; 256],
+}
+
+impl VectorSet {
+    pub fn empty() -> VectorSet {
+        VectorSet {
+            member: [false; 256],
+        }
+    }
+
+    pub fn all() -> VectorSet {
+        VectorSet {
+            member: [true; 256],
+        }
+    }
+
+    pub fn of(vectors: &[usize]) -> VectorSet {
+        let mut set = VectorSet::empty();
+        for &v in vectors {
+            set.put(v);
+        }
+        set
+    }
+
+    pub fn has(&self, v: usize) -> bool {
+        self.member[v]
+    }
+
+    pub fn put(&mut self, v: usize) {
+        self.member[v] = true;
+    }
+
+    pub fn take(&mut self, v: usize) {
+        self.member[v] = false;
+    }
+
+    pub fn members(&self) -> Vec<usize> {
+        (0..256).filter(|&v| self.member[v]).collect()
+    }
+
+    pub fn is_empty(&self) -> bool {
+        !self.member.contains(&true)
+    }
+
+    pub fn highest(&self) -> Option<usize> {
+        (0..256).rev().find(|&v| self.member[v])
+    }
+
+    pub fn joined(&self, other: &VectorSet) -> VectorSet {
+        let mut set = VectorSet::empty();
+        for v in 0..256 {
+            set.member[v] = self.member[v] || other.member[v];
+        }
+        set
+    }
+
+    pub fn without(&self, other: &VectorSet) -> VectorSet {
+        let mut set = VectorSet::empty();
+        for v in 0..256 {
+            set.member[v] = self.member[v] && !other.member[v];
+        }
+        set
+    }
+
+    /// Register number k of eight: 32 vectors each, lowest vectors first.
+    pub fn register(&self, k: usize) -> u64 {
+        let mut value = 0;
+        for i in 0..32 {
+            if self.member[32 * k + i] {
+                value += 2u64.pow(i as u32);
+            }
+        }
+        value
+    }
+}
+
+impl std::fmt::Debug for VectorSet {
+    fn fmt(&self, f: &mut std::fmt::Formatter<'_>) -> std::fmt::Result {
+        f.debug_set().entries(self.members()).finish()
+    }
+}

@@ -1,0 +1,115 @@
+//! Reading one line of a trace.
+
+use crate::events::Event;
+use crate::lines::LONGEST;
+
+#[derive(Clone, PartialEq, Eq, Debug)]
+pub enum Line {
+    PassedOver,
+    Unreadable,
+    State,
+    Event(Event),
+}
+
+const LONGEST_PAGE: u64 = 4096;
+
+pub fn read(line: &[u8]) -> Line {
+    if line.first() == Some(&b'#') {
+        return Line::PassedOver;
+    }
+    if line.len() > LONGEST {
+        return Line::Unreadable;
+    }
+    let words: Vec<&[u8]> = line
+        .split(|&b| b == b' ')
+        .filter(|w| !w.is_empty())
+        .collect();
+    match words.as_slice() {
+        [] => Line::PassedOver,
+        [b"state"] => Line::State,
+        [name, arguments @ ..] => event(name, arguments).map_or(Line::Unreadable, Line::Event),
+    }
+}
+
+fn event(name: &[u8], arguments: &[&[u8]]) -> Option<Event> {
+    match (name, arguments) {
+        (b"start", [n, l]) => Some(Event::Start {
+            n: number32(n)?,
+            vmpl: number32(l)?,
+        }),
+        (b"notice", [v, length, bytes @ ..]) => Some(Event::Notice {
+            vcpu: number32(v)?,
+            page: page(length, bytes)?,
+        }),
+        (b"call", [v, call, ecx, rdx]) => Some(Event::Call {
+            vcpu: number32(v)?,
+            call: number32(call)?,
+            ecx: number32(ecx)?,
+            rdx: number(rdx)?,
+        }),
+        (b"entry", [v, i, s, b]) => Some(Event::Entry {
+            vcpu: number32(v)?,
+            if_set: flag(i)?,
+            shadow: flag(s)?,
+            blocked: flag(b)?,
+        }),
+        (b"nondelivery", [v]) => Some(Event::NonDelivery { vcpu: number32(v)? }),
+        (b"handback", [v, i, s, length, bytes @ ..]) => Some(Event::HandBack {
+            vcpu: number32(v)?,
+            if_set: flag(i)?,
+            shadow: flag(s)?,
+            page: page(length, bytes)?,
+        }),
+        _ => None,
+    }
+}
+
+/// Decimal digits, or `0x` and hexadecimal digits, the value within 64 bits.
+pub fn number(word: &[u8]) -> Option<u64> {
+    let (digits, base) = match word {
+        [b'0', b'x', digits @ ..] => (digits, 16),
+        digits => (digits, 10),
+    };
+    if digits.is_empty() {
+        return None;
+    }
+    let mut value: u64 = 0;
+    for &digit in digits {
+        let digit = char::from(digit).to_digit(base)?;
+        value = value
+            .checked_mul(u64::from(base))?
+            .checked_add(u64::from(digit))?;
+    }
+    Some(value)
+}
+
+fn number32(word: &[u8]) -> Option<u32> {
+    u32::try_from(number(word)?).ok()
+}
+
+fn flag(word: &[u8]) -> Option<bool> {
+    match number(word)? {
+        0 => Some(false),
+        1 => Some(true),
+        _ => None,
+    }
+}
+
+/// The length, then `OFFSET=BYTE` for bytes; where an offset comes twice the last one counts.
+fn page(length: &[u8], bytes: &[&[u8]]) -> Option<Vec<u8>> {
+    let length = number(length)?;
+    if length > LONGEST_PAGE {
+        return None;
+    }
+    let mut page = vec![0; length as usize];
+    for word in bytes {
+        let equals = word.iter().position(|&b| b == b'=')?;
+        let offset = number(&word[..equals])?;
+        let byte = u8::try_from(number(&word[equals + 1..])?).ok()?;
+        if offset >= length {
+            return None;
+        }
+        page[offset as usize] = byte;
+    }
+    Some(page)
+}

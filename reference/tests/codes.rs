@@ -1,0 +1,189 @@
+//! The register table, the ICR rules and the order of the checks.
+
+mod common;
+
+use common::*;
+use reference::calls::call;
+use reference::codes::*;
+use reference::events::{entry, hand_back, non_delivery, notice};
+use reference::registers::{kind, Kind};
+use reference::state::{Module, Phase};
+
+#[test]
+fn the_table_of_kinds() {
+    let mut readable = vec![0x802, 0x808, 0x80A, 0x80D, 0x830];
+    readable.extend(0x810..=0x827);
+    let writable = [0x808, 0x80B, 0x830, 0x83F];
+    for register in (0x7F0..=0x910).chain([0, 2, 8, 0x1_0808, u32::MAX]) {
+        let expected = match (readable.contains(&register), writable.contains(&register)) {
+            (true, true) => Kind::Both,
+            (true, false) => Kind::Read,
+            (false, true) => Kind::Write,
+            (false, false) => Kind::None,
+        };
+        assert_eq!(kind(register), expected, "{register:#x}");
+    }
+}
+
+/// "register outside the table, kind none, or reading a write kind" against "writing a read kind".
+#[test]
+fn the_codes_of_the_kinds() {
+    for register in 0x7FF..=0x900 {
+        let mut m = fresh(2, 1);
+        let (reading, writing) = match kind(register) {
+            Kind::None => (Err(BAD_REGISTER), Err(BAD_REGISTER)),
+            Kind::Read => (Ok(()), Err(BAD_VALUE)),
+            Kind::Write => (Err(BAD_REGISTER), Err(BAD_VALUE)),
+            Kind::Both => (Ok(()), Err(BAD_VALUE)),
+        };
+        assert_eq!(
+            read(&mut m, 0, register).map(|_| ()),
+            reading,
+            "{register:#x}"
+        );
+        assert_eq!(
+            write(&mut m, 0, register, u64::MAX).map(|_| ()),
+            writing,
+            "{register:#x}"
+        );
+        assert_eq!(m, fresh(2, 1));
+    }
+}
+
+#[test]
+fn written_values_are_whole() {
+    let mut m = fresh(2, 1);
+    for value in [1, 0x100, 1 << 32, 1 << 63] {
+        assert_eq!(write(&mut m, 0, 0x80B, value), Err(BAD_VALUE));
+    }
+    for value in [0x100, 1 << 32, u64::MAX] {
+        assert_eq!(write(&mut m, 0, 0x808, value), Err(BAD_VALUE));
+    }
+    for value in [0, 2, 30, 256, 0x141, (1 << 32) + 0x41] {
+        assert_eq!(write(&mut m, 0, 0x83F, value), Err(BAD_VALUE));
+    }
+    assert_eq!(m, fresh(2, 1));
+    assert_eq!(write(&mut m, 0, 0x808, 255), Ok(0));
+    assert_eq!(read(&mut m, 0, 0x808), Ok(255));
+    assert_eq!(write(&mut m, 0, 0x83F, 31), Ok(1));
+    assert_eq!(write(&mut m, 0, 0x83F, 255), Ok(1));
+}
+
+/// Each rule of the ICR broken once.
+#[test]
+fn icr_rules() {
+    let refused = |value: u64| {
+        let mut m = fresh(2, 1);
+        assert_eq!(write(&mut m, 0, 0x830, value), Err(BAD_VALUE), "{value:#x}");
+        assert_eq!(m, fresh(2, 1));
+    };
+    for bit in [12, 13, 15, 16, 17].into_iter().chain(20..=31) {
+        refused(0x4041 + (1 << bit));
+    }
+    refused(0x0041);
+    for kind in [1, 2, 3, 5, 6, 7] {
+        refused(0x4041 + kind * 0x100);
+    }
+    for vector in 0..=30 {
+        refused(0x4000 + vector);
+    }
+    refused(0x0004_4400);
+    refused(0x0008_4400);
+    for good in [
+        0x4041,
+        0x401F,
+        0x40FF,
+        0x4841,
+        0x4400,
+        0x000C_4400,
+        0x0004_4041,
+        0x0008_4041,
+    ] {
+        assert!(write(&mut fresh(2, 1), 0, 0x830, good).is_ok(), "{good:#x}");
+    }
+}
+
+/// "Order: 1, phase (0x80000001 or 3), 2 or 4, call, register, kind, value or ECX, count."
+#[test]
+fn the_order_of_the_checks() {
+    let mut m = fresh(2, 1);
+    m.records[1].phase = Phase::Leaving;
+    let before = m.clone();
+    let short = &mut [0u8; 255];
+    assert_eq!(notice(&mut m, 2, short), Err(UNKNOWN_VCPU));
+    assert_eq!(notice(&mut m, 1, short), Err(NOT_ACTIVE));
+    assert_eq!(notice(&mut m, 0, short), Err(SHORT_PAGE));
+    assert_eq!(hand_back(&mut m, 2, short, true, true), Err(UNKNOWN_VCPU));
+    assert_eq!(hand_back(&mut m, 0, short, true, true), Err(NOT_LEAVING));
+    assert_eq!(hand_back(&mut m, 1, short, true, true), Err(SHORT_PAGE));
+    assert_eq!(non_delivery(&mut m, 2), Err(UNKNOWN_VCPU));
+    assert_eq!(non_delivery(&mut m, 1), Err(NOT_ACTIVE));
+    assert_eq!(non_delivery(&mut m, 0), Err(NOTHING_IN_FLIGHT));
+    assert_eq!(entry(&mut m, 2, true, false, false), Err(UNKNOWN_VCPU));
+    assert_eq!(entry(&mut m, 1, true, false, false), Err(NOT_ACTIVE));
+    assert_eq!(call(&mut m, 2, 5, 0x7FF, u64::MAX), Err(UNKNOWN_VCPU));
+    assert_eq!(call(&mut m, 1, 5, 0x7FF, u64::MAX), Err(NOT_ACTIVE));
+    assert_eq!(call(&mut m, 0, 5, 0x7FF, u64::MAX), Err(UNKNOWN_CALL));
+    assert_eq!(call(&mut m, 0, 3, 0x7FF, u64::MAX), Err(BAD_REGISTER));
+    assert_eq!(call(&mut m, 0, 3, 0x802, 0), Err(BAD_VALUE));
+    assert_eq!(m, before);
+}
+
+#[test]
+fn no_event_works_on_a_vcpu_that_has_left() {
+    let mut m = fresh(2, 1);
+    m.records[0].phase = Phase::Left;
+    let before = m.clone();
+    assert_eq!(notice(&mut m, 0, &mut page(&[(3, 1)])), Err(NOT_ACTIVE));
+    assert_eq!(call(&mut m, 0, 0, 0, 0), Err(NOT_ACTIVE));
+    assert_eq!(entry(&mut m, 0, true, false, false), Err(NOT_ACTIVE));
+    assert_eq!(non_delivery(&mut m, 0), Err(NOT_ACTIVE));
+    assert_eq!(
+        hand_back(&mut m, 0, &mut page(&[]), true, true),
+        Err(NOT_LEAVING)
+    );
+    assert_eq!(m, before);
+}
+
+/// "Call 0 ignores ECX; only call 3 reads RDX."
+#[test]
+fn arguments_that_are_not_read() {
+    let mut m = fresh(2, 1);
+    assert_eq!(call(&mut m, 0, 0, u32::MAX, u64::MAX), Ok(0));
+    assert_eq!(call(&mut m, 0, 1, REGISTER, u64::MAX), Ok(0));
+    assert_eq!(call(&mut m, 1, 2, 0x802, u64::MAX), Ok(1));
+    assert_eq!(call(&mut m, 0, 4, 0x141, u64::MAX), Ok(0));
+    assert_eq!(m.count, 2);
+}
+
+#[test]
+fn what_registers_read_as() {
+    let mut m: Module = fresh(32, 1);
+    let r = &mut m.records[31];
+    r.service = set(&[31, 32, 255]);
+    r.pending = set(&[63, 64]);
+    r.pending_level = set(&[64]);
+    r.serving_level = set(&[255]);
+    r.tpr = 0x12;
+    let expected = [
+        (0x802, 31),
+        (0x808, 0x12),
+        (0x80A, 0xF0),
+        (0x80D, 0x0001_8000),
+        (0x810, 0x8000_0000),
+        (0x811, 1),
+        (0x812, 0),
+        (0x817, 0x8000_0000),
+        (0x818, 0),
+        (0x81A, 1),
+        (0x81F, 0x8000_0000),
+        (0x820, 0),
+        (0x821, 0x8000_0000),
+        (0x822, 1),
+        (0x827, 0),
+        (0x830, 0),
+    ];
+    for (register, value) in expected {
+        assert_eq!(read(&mut m, 31, register), Ok(value), "{register:#x}");
+    }
+}

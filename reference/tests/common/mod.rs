@@ -1,0 +1,47 @@
+//! Short names for the tests.
+#![allow(dead_code)]
+
+use reference::calls::call;
+use reference::codes::Code;
+use reference::set::VectorSet;
+use reference::state::{start, Module};
+
+/// A fresh module of n vCPUs for L.
+pub fn fresh(n: u32, vmpl: u32) -> Module {
+    let (answer, module) = start(n, vmpl);
+    assert_eq!(answer, Ok(()));
+    module
+}
+
+/// L = 1, n = 2, with this set allowed on vCPU 0.
+pub fn allowing(vectors: &[usize]) -> Module {
+    let mut m = fresh(2, 1);
+    m.records[0].allowed = set(vectors);
+    m
+}
+
+pub fn set(vectors: &[usize]) -> VectorSet {
+    VectorSet::of(vectors)
+}
+
+/// A page of 256 bytes, zero but for these.
+pub fn page(bytes: &[(usize, u8)]) -> Vec<u8> {
+    let mut page = vec![0; 256];
+    for &(offset, byte) in bytes {
+        page[offset] = byte;
+    }
+    page
+}
+
+pub fn read(m: &mut Module, vcpu: u32, register: u32) -> Result<u64, Code> {
+    call(m, vcpu, 2, register, 0)
+}
+
+pub fn write(m: &mut Module, vcpu: u32, register: u32, value: u64) -> Result<u64, Code> {
+    call(m, vcpu, 3, register, value)
+}
+
+/// ECX of call 1.
+pub const LEAVE: u32 = 0;
+pub const DEREGISTER: u32 = 1;
+pub const REGISTER: u32 = 2;

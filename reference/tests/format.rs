@@ -1,0 +1,181 @@
+//! The trace format, both directions.
+
+use reference::coverage::Coverage;
+use reference::events::Event;
+use reference::lines::LONGEST;
+use reference::play::play_text;
+use reference::trace::{number, read, Line};
+
+fn readable(line: &str) -> bool {
+    matches!(read(line.as_bytes()), Line::Event(_) | Line::State)
+}
+
+#[test]
+fn the_example() {
+    let trace =
+        "start 2 1\ncall 0 4 0x141 0\nnotice 0 256 3=1 64=0x41\nentry 0 1 0 0\ncall 0 3 0x80b 0\n";
+    let output = "start ok\ncall ok 0x0\nnotice ok 0x1 page\nentry vector 0x41\ncall ok 0x0\n";
+    assert_eq!(play_text(trace.as_bytes()), output);
+}
+
+#[test]
+fn numbers() {
+    let good: [(&str, u64); 8] = [
+        ("0", 0),
+        ("007", 7),
+        ("0x0", 0),
+        ("0x00aF", 0xAF),
+        ("18446744073709551615", u64::MAX),
+        ("0xffffffffffffffff", u64::MAX),
+        ("000000000000000000000000018446744073709551615", u64::MAX),
+        ("0x000000000000000000001", 1),
+    ];
+    for (word, value) in good {
+        assert_eq!(number(word.as_bytes()), Some(value), "{word}");
+    }
+    let bad = [
+        "",
+        "0x",
+        "0X1",
+        "x1",
+        "1f",
+        "-1",
+        "+1",
+        "1_0",
+        "0x1g",
+        "0x-1",
+        "1.0",
+        "١",
+        "18446744073709551616",
+        "0x10000000000000000",
+        "00x1",
+    ];
+    for word in bad {
+        assert_eq!(number(word.as_bytes()), None, "{word}");
+    }
+}
+
+#[test]
+fn words_and_spaces() {
+    for line in [
+        "state",
+        "  state  ",
+        "entry   0x0 01 0x0    0 ",
+        "start 0xFFFFFFFF 4294967295",
+    ] {
+        assert!(readable(line), "{line}");
+    }
+    let bad = [
+        "state 0",
+        "State",
+        "start 1",
+        "start 1 1 1",
+        "start 4294967296 1",
+        "call 0 0 0",
+        "call 0 0x100000000 0 0",
+        "call 0 0 4294967296 0",
+        "entry 0 2 0 0",
+        "nondelivery",
+        "nondelivery 0 0",
+        "handback 0 1 0",
+        "handback 0 1 2 256",
+        "state\r",
+        "\tstate",
+        "entry\t0 1 0 0",
+        " # comment",
+    ];
+    for line in bad {
+        assert_eq!(read(line.as_bytes()), Line::Unreadable, "{line}");
+    }
+    for line in ["", "   ", "#", "# start 1 1", "#start 1 1"] {
+        assert_eq!(read(line.as_bytes()), Line::PassedOver, "{line}");
+    }
+}
+
+#[test]
+fn pages() {
+    let mut page = vec![0; 300];
+    page[3] = 1;
+    page[299] = 255;
+    let event = Event::Notice { vcpu: 1, page };
+    for line in [
+        "notice 1 300 3=1 299=255",
+        "notice 1 0x12c 0x12B=0xff 3=9 0003=1 4=7 4=0",
+    ] {
+        assert_eq!(read(line.as_bytes()), Line::Event(event.clone()), "{line}");
+    }
+    assert!(readable("notice 0 0"));
+    assert!(readable("notice 0 4096 4095=1"));
+    let bad = [
+        "notice 0",
+        "notice 0 4097",
+        "notice 0 0 0=0",
+        "notice 0 256 256=0",
+        "notice 0 256 3=256",
+        "notice 0 256 3",
+        "notice 0 256 3=",
+        "notice 0 256 =3",
+        "notice 0 256 3==1",
+        "notice 0 256 3=1=1",
+        "notice 0 256 3 = 1",
+    ];
+    for line in bad {
+        assert_eq!(read(line.as_bytes()), Line::Unreadable, "{line}");
+    }
+}
+
+#[test]
+fn long_lines() {
+    let padded = |text: &str, length: usize| format!("{text}{}", " ".repeat(length - text.len()));
+    let trace = [
+        padded("state", LONGEST),
+        padded("state", LONGEST + 1),
+        padded("", LONGEST),
+        padded("", LONGEST + 1),
+        padded("#", 3 * LONGEST),
+        "oops".to_string(),
+    ];
+    let output = "module n=0x0 vmpl=0x1 count=0x0\nerror line 2\nerror line 4\nerror line 6\n";
+    assert_eq!(play_text(trace.join("\n").as_bytes()), output);
+}
+
+/// An unreadable line changes nothing, every line is counted, and a last line without a newline
+/// is read.
+#[test]
+fn line_numbers() {
+    let trace = b"\n# comment\nstart 2 0x1\nstart 3\n\xff\n\nentry 0 1 0 0\r\nentry 1 1 0 0";
+    let output = "start ok\nerror line 4\nerror line 5\nerror line 7\nentry nothing\n";
+    assert_eq!(play_text(trace), output);
+    assert_eq!(play_text(b""), "");
+    assert_eq!(play_text(b"\n\n"), "");
+}
+
+#[test]
+fn before_the_first_start() {
+    let trace = "notice 0 4 3=1 2=0xFF\nstate\nstart 33 1\nstart 2 0\nstate\n";
+    let output = "notice refused 0x1 page 0x2=0xff 0x3=0x1\nmodule n=0x0 vmpl=0x1 count=0x0\n\
+        start refused 0x5\nstart refused 0x5\nmodule n=0x0 vmpl=0x1 count=0x0\n";
+    assert_eq!(play_text(trace.as_bytes()), output);
+}
+
+#[test]
+fn state_lines() {
+    let trace =
+        "start 1 3\ncall 0 4 0x161 0\ncall 0 4 0x102 0\nnotice 0 257 3=4 192=0x61 193=5 256=9\n\
+        call 0 3 0x83f 255\ncall 0 3 0x808 0x10\nentry 0 1 0 1\nstate\n";
+    let output = "start ok\ncall ok 0x0\ncall ok 0x0\nnotice ok 0x2 page 0x100=0x9\ncall ok 0x1\n\
+        call ok 0x0\nentry vector 0xff\nmodule n=0x1 vmpl=0x3 count=0x1\n\
+        vcpu 0x0 phase=active flight=0xff nmi=0x1 tpr=0x10 icr=0x0 allowed={0x2,0x61} \
+        pending={0x61} service={0xff} pending_level={0x61} serving_level={}\n";
+    assert_eq!(play_text(trace.as_bytes()), output);
+}
+
+#[test]
+fn coverage_names_what_is_missing() {
+    let some = Coverage::of(&b"start ok\nnotice ok 0x1 page\nentry vector 0x41\n"[..]).unwrap();
+    assert!(!some.missing().contains(&"entry vector"));
+    assert!(some.missing().contains(&"entry window"));
+    assert!(some.unexpected().is_empty());
+    let odd = Coverage::of(&b"call refused 0x2\n"[..]).unwrap();
+    assert_eq!(odd.unexpected(), ["call refused 0x2"]);
+}

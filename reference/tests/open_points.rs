@@ -1,0 +1,436 @@
+//! Points where readers of document 01 part ways, each with the sentence that decides it.
+
+mod common;
+
+use common::*;
+use reference::calls::call;
+use reference::codes::*;
+use reference::events::{entry, hand_back, non_delivery, notice, Shown};
+use reference::set::VectorSet;
+use reference::state::{start, Item, Module, Phase};
+
+const NMI: Option<Item> = Some(Item::Nmi);
+const PRESENTED_NMI: Result<Shown, Code> = Ok(Shown::Presented(Item::Nmi));
+
+fn presented(v: usize) -> Result<Shown, Code> {
+    Ok(Shown::Presented(Item::Vector(v)))
+}
+
+fn every_event_is_unknown(m: &mut Module) {
+    let before = m.clone();
+    assert_eq!(notice(m, 0, &mut page(&[(3, 7)])), Err(UNKNOWN_VCPU));
+    assert_eq!(call(m, 0, 0, 0, 0), Err(UNKNOWN_VCPU));
+    assert_eq!(entry(m, 0, true, false, false), Err(UNKNOWN_VCPU));
+    assert_eq!(non_delivery(m, 0), Err(UNKNOWN_VCPU));
+    assert_eq!(
+        hand_back(m, 0, &mut page(&[]), true, false),
+        Err(UNKNOWN_VCPU)
+    );
+    assert_eq!(*m, before);
+}
+
+/// "Start is refused unless n is 1 to 32 and L is 1 to 3"; no number is cut to a narrower one.
+#[test]
+fn start_takes_whole_numbers() {
+    for (n, l) in [
+        (0, 1),
+        (33, 1),
+        (256 + 2, 1),
+        (u32::MAX, 1),
+        (2, 0),
+        (2, 4),
+        (2, 257),
+    ] {
+        assert_eq!(start(n, l), (Err(BAD_START), Module::refused()));
+    }
+    for (n, l) in [(1, 1), (32, 3), (18, 2)] {
+        let (answer, m) = start(n, l);
+        assert_eq!(
+            (answer, m.n, m.vmpl, m.count, m.records.len()),
+            (Ok(()), n, l, 1, n as usize)
+        );
+    }
+}
+
+/// "vCPU not below n", "call above 4".
+#[test]
+fn vcpu_and_call_are_whole_numbers() {
+    let mut m = fresh(2, 1);
+    for vcpu in [2, 32, 256, 257, 0x1_0000, u32::MAX] {
+        assert_eq!(call(&mut m, vcpu, 0, 0, 0), Err(UNKNOWN_VCPU));
+    }
+    for number in [5, 256, 257, 0x1_0000, u32::MAX] {
+        assert_eq!(call(&mut m, 0, number, 0, 0), Err(UNKNOWN_CALL));
+    }
+}
+
+/// "so every event on it gives code 1".
+#[test]
+fn a_refused_module_knows_no_vcpu() {
+    let mut m = Module::refused();
+    assert_eq!((m.n, m.vmpl, m.count, m.records.len()), (0, 1, 0, 0));
+    every_event_is_unknown(&mut m);
+}
+
+/// "A module value with n over 32 or L not 1 to 3 is answered as one with n 0."
+#[test]
+fn a_module_value_out_of_range_knows_no_vcpu() {
+    let mut many = fresh(32, 1);
+    many.n = 33;
+    many.records.push(many.records[0].clone());
+    every_event_is_unknown(&mut many);
+    for vmpl in [0, 4, 257] {
+        let mut m = fresh(2, 1);
+        m.vmpl = vmpl;
+        every_event_is_unknown(&mut m);
+    }
+}
+
+/// "InjectionInfo is the 16-bit word at byte 2; its bit 7 + L announces work", and "no other bit
+/// changes".
+#[test]
+fn each_level_has_its_announcing_bit() {
+    for vmpl in 1..=3 {
+        let own = 1 << (vmpl - 1);
+        let start = 64 * vmpl as usize;
+        let mut m = fresh(2, vmpl);
+        m.records[0].allowed = set(&[0x41]);
+        let mut p = vec![0xFF; 300];
+        p[start..start + 32].fill(0);
+        p[start] = 0x41;
+        let mut silent = p.clone();
+        silent[3] -= own;
+
+        let mut after = p.clone();
+        after[3] -= own;
+        after[start] = 0;
+        assert_eq!(notice(&mut m, 0, &mut p), Ok(1));
+        assert_eq!(p, after);
+        let unchanged = silent.clone();
+        assert_eq!(notice(&mut m, 0, &mut silent), Ok(0));
+        assert_eq!(silent, unchanged);
+    }
+}
+
+/// "as edge, if bits 10 and 14 are clear": bit 10 with a vector that may not come in as
+/// level-sensitive gives nothing, and the marks under bit 14 have their own rule.
+#[test]
+fn a_refused_level_vector_is_no_edge_vector() {
+    for vector in [0, 2, 30, 0x80] {
+        let mut m = allowing(&[2, 0x41]);
+        let mut p = page(&[(3, 1), (64, vector), (65, 0x04)]);
+        assert_eq!(notice(&mut m, 0, &mut p), Ok(0));
+        let mut p = page(&[(3, 1), (64, vector), (65, 0x44), (72, 0x02), (80, 0x01)]);
+        assert_eq!(notice(&mut m, 0, &mut p), Ok(1));
+        assert_eq!(m.records[0].pending, set(&[0x41]));
+        assert!(m.records[0].pending_level.is_empty());
+    }
+}
+
+/// "every marked vector 31 to 255 in A other than that level-sensitive one": counted once.
+#[test]
+fn a_marked_level_vector_counts_once() {
+    let mut m = allowing(&[0x41, 0x42]);
+    let mut p = page(&[(3, 1), (64, 0x41), (65, 0x44), (72, 0x06)]);
+    assert_eq!(notice(&mut m, 0, &mut p), Ok(2));
+    assert_eq!(m.records[0].pending, set(&[0x41, 0x42]));
+    assert_eq!(m.records[0].pending_level, set(&[0x41]));
+}
+
+/// "descriptor bits 0 to 10 and 14 are cleared, and, if bit 14 was set, bits 31 to 255".
+#[test]
+fn which_bits_survive_a_notice() {
+    let mut m = fresh(2, 2);
+    let mut full = vec![0xFF; 256];
+    notice(&mut m, 0, &mut full).unwrap();
+    let mut after = vec![0xFF; 256];
+    after[3] = 0xFD;
+    after[128] = 0;
+    after[129] = 0xB8;
+    after[131] = 0x7F;
+    after[132..160].fill(0);
+    assert_eq!(full, after);
+
+    let mut single = vec![0xFF; 256];
+    single[129] = 0xBF;
+    notice(&mut m, 0, &mut single).unwrap();
+    let mut after = vec![0xFF; 256];
+    after[3] = 0xFD;
+    after[128] = 0;
+    after[129] = 0xB8;
+    assert_eq!(single, after);
+}
+
+/// "The result is the number of admitted items, the NMI counted": pending already or not.
+#[test]
+fn items_count_each_time_and_226_is_most() {
+    let mut m = fresh(2, 1);
+    m.records[0].allowed = VectorSet::all();
+    for _ in 0..2 {
+        assert_eq!(notice(&mut m, 0, &mut [0xFF; 256]), Ok(226));
+    }
+    assert_eq!(
+        m.records[0].pending.members(),
+        (31..=255).collect::<Vec<usize>>()
+    );
+    assert_eq!(m.records[0].pending_level, set(&[255]));
+    assert!(m.records[0].nmi);
+}
+
+/// "if at least 31 and in A": 2 in A lets in the NMI, never vector 2.
+#[test]
+fn vector_2_is_only_the_nmi() {
+    let mut m = allowing(&[2]);
+    assert_eq!(notice(&mut m, 0, &mut page(&[(3, 1), (64, 2)])), Ok(0));
+    assert_eq!(
+        notice(&mut m, 0, &mut page(&[(3, 1), (64, 2), (65, 4)])),
+        Ok(0)
+    );
+    assert_eq!(m, allowing(&[2]));
+    assert_eq!(notice(&mut m, 0, &mut page(&[(3, 1), (65, 1)])), Ok(1));
+    assert!(m.records[0].nmi);
+}
+
+/// "An accepted guest call or entry first forgets what is in flight on its vCPU."
+#[test]
+fn what_forgets_what_is_in_flight() {
+    let mut m = fresh(2, 1);
+    m.records[0].nmi = true;
+    assert_eq!(entry(&mut m, 0, true, false, false), PRESENTED_NMI);
+    assert_eq!(call(&mut m, 0, 5, 0, 0), Err(UNKNOWN_CALL));
+    assert_eq!(call(&mut m, 0, 4, 0x11E, 0), Err(BAD_VALUE));
+    assert_eq!(notice(&mut m, 0, &mut page(&[(3, 1), (65, 1)])), Ok(0));
+    assert_eq!(write(&mut m, 1, 0x830, 0x4041), Ok(1));
+    assert_eq!(
+        hand_back(&mut m, 0, &mut page(&[]), true, false),
+        Err(NOT_LEAVING)
+    );
+    assert_eq!(m.records[0].flight, NMI);
+
+    let mut by_call = m.clone();
+    assert_eq!(call(&mut by_call, 0, 0, 9, 9), Ok(0));
+    assert_eq!(by_call.records[0].flight, None);
+    let mut by_leaving = m.clone();
+    assert_eq!(call(&mut by_leaving, 0, 1, DEREGISTER, 0), Ok(0));
+    assert_eq!(by_leaving.records[0].phase, Phase::Leaving);
+    assert_eq!(by_leaving.records[0].flight, None);
+    let mut by_entry = m.clone();
+    assert_eq!(
+        entry(&mut by_entry, 0, false, false, false),
+        Ok(Shown::Window(0x41))
+    );
+    assert_eq!(by_entry.records[0].flight, None);
+    assert_eq!(non_delivery(&mut by_entry, 0), Err(NOTHING_IN_FLIGHT));
+}
+
+/// "ECX 1 takes one from the count unless it is 0, then acts as ECX 0."
+#[test]
+fn deregistering_at_count_0_leaves() {
+    let mut m = fresh(2, 1);
+    assert_eq!(call(&mut m, 0, 1, LEAVE, 0), Ok(0));
+    assert_eq!(m.records[0].phase, Phase::Active);
+    assert_eq!(call(&mut m, 0, 1, DEREGISTER, 0), Ok(0));
+    assert_eq!(call(&mut m, 1, 1, DEREGISTER, 0), Ok(0));
+    assert_eq!(m.count, 0);
+    assert_eq!(m.records[1].phase, Phase::Leaving);
+}
+
+/// "registering at count 255", "registering at count 0"; the count comes last in the order.
+#[test]
+fn the_codes_of_registering() {
+    let mut m = fresh(2, 1);
+    for _ in 1..255 {
+        assert_eq!(call(&mut m, 0, 1, REGISTER, 0), Ok(0));
+    }
+    assert_eq!(call(&mut m, 0, 1, REGISTER, 0), Err(COUNT_FULL));
+    assert_eq!(call(&mut m, 0, 1, 3, 0), Err(BAD_VALUE));
+    assert_eq!(m.count, 255);
+    m.count = 0;
+    assert_eq!(call(&mut m, 0, 1, REGISTER, 0), Err(COUNT_ZERO));
+    assert_eq!(call(&mut m, 0, 1, 0x102, 0), Err(BAD_VALUE));
+}
+
+/// "With S empty it succeeds and names none."
+#[test]
+fn eoi_with_an_empty_s_changes_no_set() {
+    let mut m = fresh(2, 1);
+    m.records[0].serving_level = set(&[0x61]);
+    assert_eq!(write(&mut m, 0, 0x80B, 0), Ok(0));
+    assert_eq!(m.records[0].serving_level, set(&[0x61]));
+}
+
+/// "Under a shorthand the destination is not read"; no rule forbids bit 11 there, nor any vector
+/// of an NMI.
+#[test]
+fn shorthands_and_nmi_vectors() {
+    let mut m = fresh(18, 1);
+    assert_eq!(write(&mut m, 3, 0x830, 0xFFFF_0000_0004_4841), Ok(1 << 3));
+    assert_eq!(write(&mut m, 3, 0x830, 0x0000_0001_0008_4841), Ok(0x3_FFFF));
+    assert_eq!(write(&mut m, 3, 0x830, 0x0000_0003_000C_4041), Ok(0x3_FFF7));
+    for vector in [0, 2, 30, 255] {
+        assert_eq!(
+            write(&mut m, 3, 0x830, 0x0000_0011_0000_4400 + vector),
+            Ok(1 << 17)
+        );
+    }
+    assert!(m.records[17].nmi);
+}
+
+/// "Destination 0xFFFFFFFF is all, either way", and a value that names nobody is stored.
+#[test]
+fn destinations() {
+    let mut m = fresh(18, 1);
+    let send = |m: &mut Module, value: u64| {
+        let reached = write(m, 0, 0x830, value).unwrap();
+        assert_eq!(read(m, 0, 0x830), Ok(value));
+        reached
+    };
+    assert_eq!(send(&mut m, 0xFFFF_FFFF_0000_4041), 0x3_FFFF);
+    assert_eq!(send(&mut m, 0xFFFF_FFFF_0000_4841), 0x3_FFFF);
+    assert_eq!(send(&mut m, 0x0000_0012_0000_4041), 0);
+    assert_eq!(send(&mut m, 0x0000_0100_0000_4041), 0);
+    assert_eq!(send(&mut m, 0x0001_0003_0000_4841), 0x3_0000);
+    assert_eq!(send(&mut m, 0x0001_FFFC_0000_4841), 0);
+    assert_eq!(send(&mut m, 0x0002_FFFF_0000_4841), 0);
+    assert_eq!(send(&mut m, 0x0000_0000_0000_4841), 0);
+    assert_eq!(send(&mut m, 0x0000_8001_0000_4841), 0x8001);
+}
+
+/// "Targets not active are passed over", the result and the sets alike.
+#[test]
+fn targets_that_are_not_active() {
+    let mut m = fresh(3, 1);
+    m.records[1].phase = Phase::Leaving;
+    m.records[2].phase = Phase::Left;
+    let (second, third) = (m.records[1].clone(), m.records[2].clone());
+    assert_eq!(write(&mut m, 0, 0x830, 0x0008_4041), Ok(1));
+    assert_eq!(write(&mut m, 0, 0x830, 0x000C_4400), Ok(0));
+    assert_eq!((&m.records[1], &m.records[2]), (&second, &third));
+}
+
+/// "An ICR write stores the value": a self-IPI is none.
+#[test]
+fn a_self_ipi_stores_nothing() {
+    let mut m = fresh(2, 1);
+    assert_eq!(write(&mut m, 1, 0x83F, 0x41), Ok(2));
+    assert_eq!(read(&mut m, 1, 0x830), Ok(0));
+    assert_eq!(m.records[1].pending, set(&[0x41]));
+}
+
+/// "If the NMI mark is set and neither shadow nor NMI-blocked holds"; "Else" looks at P.
+#[test]
+fn a_held_nmi_lets_vectors_pass() {
+    let mut m = fresh(2, 1);
+    m.records[0].nmi = true;
+    assert_eq!(entry(&mut m, 0, true, true, false), Ok(Shown::Nothing));
+    assert_eq!(entry(&mut m, 0, true, false, true), Ok(Shown::Nothing));
+    m.records[0].pending = set(&[0x41]);
+    assert_eq!(entry(&mut m, 0, true, true, false), Ok(Shown::Window(0x41)));
+    assert_eq!(
+        entry(&mut m, 0, false, false, true),
+        Ok(Shown::Window(0x41))
+    );
+    assert_eq!(entry(&mut m, 0, true, false, true), presented(0x41));
+    assert!(m.records[0].nmi);
+    assert_eq!(entry(&mut m, 0, false, false, false), PRESENTED_NMI);
+}
+
+/// Entry and PPR know no lower bound: "v the highest of P", "s the highest of S".
+#[test]
+fn low_vectors_in_entry_and_ppr() {
+    let mut m = fresh(2, 1);
+    m.records[0].pending = set(&[15]);
+    assert_eq!(entry(&mut m, 0, true, false, false), Ok(Shown::Nothing));
+    m.records[0].pending = set(&[16]);
+    assert_eq!(entry(&mut m, 0, true, false, false), presented(16));
+    assert_eq!(read(&mut m, 0, 0x80A), Ok(16));
+}
+
+/// Hand-back: "the highest of PL", but "members 31 to 255" of the other two, and bit 14 "if there
+/// are any such".
+#[test]
+fn low_vectors_in_a_hand_back() {
+    let mut m = fresh(2, 1);
+    let r = &mut m.records[0];
+    r.phase = Phase::Leaving;
+    r.pending = set(&[0, 15, 30]);
+    r.pending_level = set(&[0, 15]);
+    r.service = set(&[8, 30]);
+    let mut p = vec![0xFF; 256];
+    assert_eq!(hand_back(&mut m, 0, &mut p, false, false), Ok(0x1_0000));
+    let mut after = vec![0xFF; 256];
+    after[64..128].fill(0);
+    after[64] = 15;
+    after[65] = 0x04;
+    assert_eq!(p, after);
+}
+
+/// Non-delivery: v "joins P, and PL if it was in SL"; nothing takes it out of PL.
+#[test]
+fn an_item_returned_meets_a_newer_request() {
+    let mut m = allowing(&[0x61]);
+    let edge = page(&[(3, 1), (64, 0x61)]);
+    let level = page(&[(3, 1), (64, 0x61), (65, 0x04)]);
+    for (first, second) in [(&edge, &level), (&level, &edge), (&level, &level)] {
+        let mut run = m.clone();
+        notice(&mut run, 0, &mut first.clone()).unwrap();
+        assert_eq!(entry(&mut run, 0, true, false, false), presented(0x61));
+        notice(&mut run, 0, &mut second.clone()).unwrap();
+        assert_eq!(non_delivery(&mut run, 0), Ok(0));
+        assert_eq!(run.records[0].pending_level, set(&[0x61]));
+        assert_eq!(run.records[0].pending, set(&[0x61]));
+        assert!(run.records[0].serving_level.is_empty());
+    }
+    notice(&mut m, 0, &mut edge.clone()).unwrap();
+    entry(&mut m, 0, true, false, false).unwrap();
+    assert_eq!(non_delivery(&mut m, 0), Ok(0));
+    assert!(m.records[0].pending_level.is_empty());
+}
+
+/// "The five sets and the NMI mark are emptied; the phase is left": TPR, ICR and what is in
+/// flight stay.
+#[test]
+fn what_a_hand_back_leaves() {
+    let mut m = fresh(2, 3);
+    let r = &mut m.records[1];
+    r.phase = Phase::Leaving;
+    r.allowed = set(&[2, 31]);
+    r.pending = set(&[31, 0x61, 0x62, 255]);
+    r.pending_level = set(&[0x61, 0x62]);
+    r.service = set(&[32, 0x63]);
+    r.serving_level = set(&[0x63]);
+    r.nmi = true;
+    r.tpr = 0xAB;
+    r.icr = 0x4041;
+    r.flight = Some(Item::Vector(32));
+    let mut left = fresh(1, 3).records[0].clone();
+    left.phase = Phase::Left;
+    left.tpr = 0xAB;
+    left.icr = 0x4041;
+    left.flight = Some(Item::Vector(32));
+
+    let mut p = vec![0xFF; 257];
+    assert_eq!(hand_back(&mut m, 1, &mut p, true, true), Ok(0x3_AB03));
+    let mut after = vec![0xFF; 257];
+    after[192..256].fill(0);
+    after[192] = 0x62;
+    after[193] = 0x45;
+    after[195] = 0x80;
+    after[192 + 31] = 0x80;
+    after[192 + 32 + 4] = 0x01;
+    assert_eq!(p, after);
+    assert_eq!(m.records[1], left);
+}
+
+/// Two ways the documents differ: the EOI of a level-sensitive vector that is not allowed is not
+/// this gate's, and an edge request leaves the TMR alone.
+#[test]
+fn the_tmr_is_pl_joined_with_sl() {
+    let mut m = allowing(&[0x61, 0x82]);
+    notice(&mut m, 0, &mut page(&[(3, 1), (64, 0x61), (65, 0x04)])).unwrap();
+    entry(&mut m, 0, true, false, false).unwrap();
+    notice(&mut m, 0, &mut page(&[(3, 1), (64, 0x61)])).unwrap();
+    notice(&mut m, 0, &mut page(&[(3, 1), (64, 0x82), (65, 0x04)])).unwrap();
+    assert_eq!(read(&mut m, 0, 0x81B), Ok(2));
+    assert_eq!(read(&mut m, 0, 0x81C), Ok(4));
+}

@@ -7,7 +7,7 @@ use native.Mathlib.Omega.{arith}
 use native.Mathlib.Nat.{div-div-eq-div-mul, pow-succ', not-suc-le-zero, le-of-suc-le-suc, div-one, div-eq-of-lt}
 use lib.Dec.{eqb, eqb·suc-suc}
 use lib.Bits.{bitAnd, bitOr, and-shr, or-shr, and-step, or-step}
-use lib.Pow.{pow-mono, shr-shr, high}
+use lib.Pow.{pow-mono, shr-shr, high, low, field, mod-mod-pow}
 use borrow.Author.Tests.{eqb-true, eqb-false, ne-eqb}
 use Rattle.vector_set.specs.Bits.{one, bitAt, bits}
 
@@ -191,3 +191,16 @@ bit-pow (suc k) (suc b) =
     let p : 2 ^ suc k ≡ 2 * 2 ^ k = pow-succ' 2 k in
     let e : 2 ^ suc k / 2 ≡ 2 ^ k = omega arith in
     bit-suc (2 ^ suc k) b ∙ ap (λ (y : ℕ). bitAt y b) e ∙ bit-pow k b ∙ sym (eqb·suc-suc b k)
+
+-- ---- a number of a high and a low part
+pub bit-mod : (n x b : ℕ) → b < n → bitAt (x % 2 ^ n) b ≡ bitAt x b
+bit-mod n x b l =
+    let e : n ≡ (n - (1 + b)) + (1 + b) = omega arith in
+    let m : x % 2 ^ n % 2 ^ (1 + b) ≡ x % 2 ^ (1 + b) = ap (λ (k : ℕ). x % 2 ^ k % 2 ^ (1 + b)) e ∙ mod-mod-pow x (n - (1 + b)) (1 + b) in
+    ap (λ (y : ℕ). eqb y 1) (sym (field (x % 2 ^ n) 1 b) ∙ ap (λ (y : ℕ). y / 2 ^ b) m ∙ field x 1 b)
+
+pub bit-low : (n hi lo b : ℕ) → lo < 2 ^ n → b < n → bitAt (hi * 2 ^ n + lo) b ≡ bitAt lo b
+bit-low n hi lo b h l = sym (bit-mod n (hi * 2 ^ n + lo) b l) ∙ ap (λ (y : ℕ). bitAt y b) (low hi n h)
+
+pub bit-high : (n hi lo b : ℕ) → lo < 2 ^ n → bitAt (hi * 2 ^ n + lo) (n + b) ≡ bitAt hi b
+bit-high n hi lo b h = sym (bit-shr (hi * 2 ^ n + lo) n b) ∙ ap (λ (y : ℕ). bitAt y b) (high hi n h)

@@ -118,6 +118,47 @@ pub has-from : (x : ℕ) (s : List ℕ) (v : ℕ) → v < 256 → has (from x s)
 unfolding from
 has-from x s v h = has-collect (λ v. leb x v && has s v) v h
 
+-- ---- each set is eight words
+pub words-empty : Words empty
+unfolding empty
+words-empty = collect-words (λ v. false)
+
+pub words-full : Words full
+unfolding full
+words-full = collect-words (λ v. true)
+
+pub words-insert : (x : ℕ) (s : List ℕ) → Words (insert x s)
+unfolding insert
+words-insert x s = collect-words (λ v. eqb v x || has s v)
+
+pub words-remove : (x : ℕ) (s : List ℕ) → Words (remove x s)
+unfolding remove
+words-remove x s = collect-words (λ v. not (eqb v x) && has s v)
+
+pub words-union : (s t : List ℕ) → Words (union s t)
+unfolding union
+words-union s t = collect-words (λ v. has s v || has t v)
+
+pub words-difference : (s t : List ℕ) → Words (difference s t)
+unfolding difference
+words-difference s t = collect-words (λ v. has s v && not (has t v))
+
+pub words-intersection : (s t : List ℕ) → Words (intersection s t)
+unfolding intersection
+words-intersection s t = collect-words (λ v. has s v && has t v)
+
+pub words-from : (x : ℕ) (s : List ℕ) → Words (from x s)
+unfolding from
+words-from x s = collect-words (λ v. leb x v && has s v)
+
+-- ---- a set that is said by its members
+pub collect-is : (f : ℕ → Bool) (s : List ℕ) → Words s → ((v : ℕ) → v < 256 → has s v ≡ f v) → s ≡ collect f
+collect-is f s w h = set-ext s (collect f) w (collect-words f) (λ v l. h v l ∙ sym (has-collect f v l))
+
+-- eight words with no member are the empty set
+pub empty-is : (s : List ℕ) → Words s → ((v : ℕ) → v < 256 → has s v ≡ false) → s ≡ empty
+empty-is s w h = set-ext s empty w words-empty (λ v l. h v l ∙ sym (has-empty v l))
+
 -- ---- the highest member
 below-has : (s : List ℕ) (n v : ℕ) → highestBelow s n ≡ some v → (has s v ≡ true) × (v < n)
 unfolding highestBelow

@@ -5,3 +5,5 @@ pub mod Ipi
 pub mod Requests
 pub mod Codes
 pub mod Events
+pub mod Causes
+pub mod Demand1

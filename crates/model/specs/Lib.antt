@@ -7,3 +7,4 @@ pub mod Codes
 pub mod Events
 pub mod Causes
 pub mod Demand1
+pub mod Reached

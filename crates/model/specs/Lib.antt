@@ -8,3 +8,6 @@ pub mod Events
 pub mod Causes
 pub mod Demand1
 pub mod Reached
+pub mod Bytes
+pub mod ReadBack
+pub mod Demand2

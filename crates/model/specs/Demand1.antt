@@ -2,19 +2,19 @@
 -- a refused event leaves the module and the page as they were.
 -- Assumes nothing.
 use mathlib.Core.Path.{_≡_, refl, sym, ap, _∙_}
-use mathlib.Core.Bool.{Bool, true, false, cond, not, _&&_, _||_}
+use mathlib.Core.Bool.{Bool, true, false, cond, not, _&&_}
 use mathlib.Core.List.{List, [], _∷_}
 use mathlib.Core.Option.{Option, none, some}
-use Prim.Native.Nat.{ℕ, zero, suc, _%_, _<_, _≤_}
+use Prim.Native.Nat.{ℕ, zero, suc, _%_, _≤_}
 use native.Mathlib.Omega.{arith}
 use lib.Dec.{leb, ltb, eqb}
 use lib.ListN.{length}
-use borrow.Author.Tests.{ltb-true, ltb-false, leb-true, leb-false, eqb-true, eqb-false, lt-ltb, le-ltb, le-leb, lt-leb, eq-eqb, ne-eqb}
+use borrow.Author.Tests.{leb-false, eqb-true, lt-ltb, le-ltb, lt-leb, ne-eqb}
 use Rattle.model.specs.declared.InFlight.{InFlight}
 use Rattle.model.specs.declared.Kind.{Kind}
 use Rattle.model.specs.declared.Kind.the-variants as kind
 use Rattle.model.specs.declared.Refusal.{Refusal}
-use Rattle.model.specs.declared.Refusal.the-variants.{UnknownVcpu, ShortPage, NotLeaving, NothingInFlight, NotActive, BadRegister, BadParameter, RegistrationsFull, NotRegistered}
+use Rattle.model.specs.declared.Refusal.the-variants.{UnknownVcpu, ShortPage, NotLeaving, NothingInFlight, NotActive, BadParameter, RegistrationsFull, NotRegistered}
 use Rattle.model.specs.declared.Local.{Local}
 use Rattle.model.specs.declared.Local.the-variants as local
 use Rattle.model.specs.declared.Request.{Request}
@@ -27,7 +27,8 @@ use Rattle.model.specs.Ipi.{icrLegal}
 use Rattle.model.specs.Requests.{registration, readBy, writeBy, writeValue, nameable, permission, requestOf}
 use Rattle.model.specs.Codes.{codeOf, Result, done, nothing, nmi, vector, window, refused}
 use Rattle.model.specs.Events.{Event, notice, call, entry, nonDelivery, handBack, on, pageOf, Offer, idle, offerNmi, offerVector, offerWindow, Verdict, accept, refuse, need, mayCall, vcpuVerdict, verdict, Out, doNotice, doCall, doEntry, doNonDelivery, doHandBack, step, startResult, doStart}
-use Rattle.model.specs.Causes.{Cause, cause, firstCause, refusalOf, inTable, badValue, badEcx, isKindNone, isKindRead, isKindWrite, callCauses, causes, startCauses}
+use Rattle.model.specs.Causes.{cause, firstCause, refusalOf, inTable, badValue, badEcx, isKindNone, isKindRead, isKindWrite, callCauses, causes, startCauses}
+use Rattle.model.specs.Tests.{or-false, eqb-above, ltb-leb, zero-leb}
 use Rattle.vector_set.specs.Bits.{bitAt}
 use Rattle.vector_set.specs.Laws.{clash}
 
@@ -79,29 +80,11 @@ unfolding doHandBack
 result-handBack accept m i p iF sh = refl
 result-handBack (refuse c) m i p iF sh = refl
 
--- ---- the tests and their opposites
-ltb-leb : (a b : ℕ) → ltb a b ≡ not (leb b a)
-ltb-leb a b = pick (leb b a) refl
-  where
-    pick : (t : Bool) → leb b a ≡ t → ltb a b ≡ not t
-    pick true e = le-ltb a b (leb-true b a e)
-    pick false e = lt-ltb a b (leb-false b a e)
-
-zero-leb : (k : ℕ) → eqb k 0 ≡ not (leb 1 k)
-zero-leb k = pick (leb 1 k) refl
-  where
-    pick : (t : Bool) → leb 1 k ≡ t → eqb k 0 ≡ not t
-    pick true e = let h = leb-true 1 k e in ne-eqb k 0 (λ (q : k ≡ 0). omega arith)
-    pick false e = let h = leb-false 1 k e in eq-eqb k 0 (omega arith)
-
 -- ---- the numbers of a call
 -- a test that must pass is a cause where it fails
 needs : (a : Bool) (c : Refusal) (g : Verdict) (o : Option ℕ) → refusalIn g ≡ o → refusalIn (need a c g) ≡ cond (not a) (some (codeOf c)) o
 needs true c g o e = e
 needs false c g o e = refl
-
-above : (c a : ℕ) → a < c → eqb c a ≡ false
-above c a h = ne-eqb c a (λ (q : c ≡ a). omega arith)
 
 call-1 : (k c x : ℕ) → refusalIn (mayCall k (registration c)) ≡ firstCause (callCauses k 1 c x)
 unfolding registration callCauses badEcx firstCause
@@ -110,7 +93,7 @@ call-1 k (suc zero) x = refl
 call-1 k (suc (suc zero)) x = rw (zero-leb k, ltb-leb 254 k) (needs (leb 1 k) NotRegistered _ _ (needs (leb k 254) RegistrationsFull accept none refl))
 call-1 k (suc (suc (suc c))) x =
     let d = suc (suc (suc c)) in
-    rw (above d 0 (omega arith), above d 1 (omega arith), above d 2 (omega arith), lt-ltb 2 d (omega arith))
+    rw (eqb-above d 0 (omega arith), eqb-above d 1 (omega arith), eqb-above d 2 (omega arith), lt-ltb 2 d (omega arith))
 
 -- no register outside the table has a kind
 outside : (c a b : ℕ) → inTable c ≡ false → 0x800 ≤ a → b ≤ 0x8FF → within a b c ≡ false
@@ -161,10 +144,6 @@ call-2 k c x = pick (inTable c) (kindOf c) (outside-none c)
     pick true kind.Read h = refl
     pick true kind.Write h = refl
     pick true kind.Both h = refl
-
-or-false : (t : Bool) → (t || false) ≡ t
-or-false true = refl
-or-false false = refl
 
 -- the value of a register that may be written
 call-value : (k c x : ℕ) → isKindNone (kindOf c) ≡ false → isKindRead (kindOf c) ≡ false
@@ -224,7 +203,7 @@ numbers k (suc (suc (suc zero))) c x = call-3 k c x
 numbers k (suc (suc (suc (suc zero)))) c x = call-4 k c x
 numbers k (suc (suc (suc (suc (suc op))))) c x =
     let d = suc (suc (suc (suc (suc op)))) in
-    rw (above d 0 (omega arith), above d 1 (omega arith), above d 2 (omega arith), above d 3 (omega arith), above d 4 (omega arith), lt-ltb 4 d (omega arith))
+    rw (eqb-above d 0 (omega arith), eqb-above d 1 (omega arith), eqb-above d 2 (omega arith), eqb-above d 3 (omega arith), eqb-above d 4 (omega arith), lt-ltb 4 d (omega arith))
 
 -- ---- whichever event it is
 may-call : (a b : Bool) (k : ℕ) (r : Request) → need a UnknownVcpu (need b NotActive (mayCall k r)) ≡ accept → mayCall k r ≡ accept

@@ -12,9 +12,9 @@ use borrow.Author.Tests.{ltb-true, leb-true}
 use Rattle.model.specs.declared.Refusal.the-variants.{UnknownVcpu, ShortPage, NotLeaving}
 use Rattle.model.specs.declared.Module.{Module}
 use Rattle.model.specs.State.{isLeaving, size, vcpuAt, start}
-use Rattle.model.specs.Doorbell.{longEnough, admitted, written}
+use Rattle.model.specs.Doorbell.{longEnough, admitted}
 use Rattle.model.specs.Codes.{done}
-use Rattle.model.specs.Events.{Event, handBack, Verdict, accept, refuse, need, vcpuVerdict, verdict, handed, doHandBack, step, final}
+use Rattle.model.specs.Events.{Event, handBack, Verdict, accept, refuse, need, vcpuVerdict, verdict, doHandBack, step, final}
 use Rattle.model.specs.Reached.{Sound, AllSound, all-reached}
 use Rattle.model.specs.ReadBack.{announce, pending, read-back}
 use Rattle.vector_set.specs.Sets.{full}

@@ -6,6 +6,7 @@ pub mod Requests
 pub mod Codes
 pub mod Events
 pub mod Causes
+pub mod Tests
 pub mod Demand1
 pub mod Reached
 pub mod Bytes

@@ -1,15 +1,15 @@
 -- What holds of every record of a module that events reach from a fresh one. Document 01, State: "In every module that events reach from a fresh one,
 -- P and S hold only 31 to 255, PL lies within P and SL within S".
 -- Assumes nothing.
-use mathlib.Core.Path.{_≡_, refl, sym, ap, _∙_}
+use mathlib.Core.Path.{_≡_, refl, sym, _∙_}
 use mathlib.Core.Bool.{Bool, true, false, cond, not, _&&_, _||_}
 use mathlib.Core.List.{List, [], _∷_, _++_}
 use mathlib.Core.Option.{Option, none, some}
-use Prim.Native.Nat.{ℕ, zero, suc, _-_, _%_, _<_, _≤_}
+use Prim.Native.Nat.{ℕ, zero, suc, _-_, _<_, _≤_}
 use native.Mathlib.Omega.{arith}
-use lib.Dec.{leb, ltb, eqb}
-use lib.ListN.{length, getD, set, replicate}
-use borrow.Author.Tests.{leb-true, leb-false, lt-leb, eqb-true, ne-eqb}
+use lib.Dec.{leb, eqb}
+use lib.ListN.{getD, set, replicate}
+use borrow.Author.Tests.{leb-true, leb-false, lt-leb}
 use Rattle.model.specs.declared.Phase.{Phase}
 use Rattle.model.specs.declared.InFlight.{InFlight}
 use Rattle.model.specs.declared.InFlight.the-variants as flight
@@ -25,11 +25,12 @@ use Rattle.model.specs.declared.Request.the-variants as request
 use Rattle.model.specs.declared.Vcpu.{Vcpu}
 use Rattle.model.specs.declared.Module.{Module}
 use Rattle.model.specs.State.{bare, fresh, absent, size, vcpuAt, mayStart, started, stopped, start, withVcpu, withRegistrations, withIcr}
-use Rattle.model.specs.Doorbell.{isVector, Part, noPart, isLevel, bitOf, levelBit, manyBit, vectorField, announces, descriptor, admitsNmi, admitsLevel, admitsEdge, admits, admitted}
+use Rattle.model.specs.Doorbell.{isVector, Part, noPart, isLevel, bitOf, levelBit, vectorField, announces, descriptor, admitsLevel, admitsEdge, admits, admitted}
 use Rattle.model.specs.Registers.{kindOf, ppr, class, endedAt, ended}
 use Rattle.model.specs.Ipi.{icrVector, icrType, icrShorthand, icrIsFixed, icrIsNmi, icrFixedBits, icrLegal, icrItem, icrTarget, reached, post, reach, mapFrom, sent}
-use Rattle.model.specs.Requests.{bad, registration, readBy, writeValue, writeBy, nameable, permission, requestOf, forget, leaveIf, serve}
-use Rattle.model.specs.Events.{Event, notice, call, entry, nonDelivery, handBack, noticed, Offer, idle, offerNmi, offerVector, offerWindow, offerHighest, offer, flightOf, gains, present, giveBack, emptied, Verdict, accept, refuse, verdict, doNotice, store, doCall, doEntry, doNonDelivery, doHandBack, step, next, final}
+use Rattle.model.specs.Requests.{registration, readBy, writeValue, writeBy, nameable, permission, requestOf, forget, leaveIf, serve}
+use Rattle.model.specs.Events.{Event, notice, call, entry, nonDelivery, handBack, noticed, Offer, idle, offerNmi, offerVector, offerWindow, offerHighest, offer, flightOf, gains, present, giveBack, emptied, Verdict, accept, refuse, doNotice, doCall, doEntry, doNonDelivery, doHandBack, step, next, final}
+use Rattle.model.specs.Tests.{or-true, eqb-below}
 use Rattle.vector_set.specs.Bits.{bitAt}
 use Rattle.vector_set.specs.Sets.{has, collect, empty, insert, remove, highest}
 use Rattle.vector_set.specs.Laws.{clash, Words, has-collect, has-empty, collect-words, highest-has}
@@ -64,9 +65,6 @@ levelled f g low sub =
       within = λ x h e. has-collect f x h ∙ sub x h (sym (has-collect g x h) ∙ e);
     }
 
-below : (x y : ℕ) → 31 ≤ x → y < 31 → eqb y x ≡ false
-below x y h l = ne-eqb y x (λ (q : y ≡ x). omega arith)
-
 levelled-empty : Levelled empty empty
 unfolding empty
 levelled-empty = levelled (λ x. false) (λ x. false) (λ x h. refl) (λ x h e. e)
@@ -92,7 +90,7 @@ levelled-insert x s t g l =
     record {
       words = collect-words (λ v. eqb v x || has s v);
       level-words = l .level-words;
-      vectors = λ v h. has-collect (λ v. eqb v x || has s v) v (omega arith) ∙ rw (below x v g h) (l .vectors v h);
+      vectors = λ v h. has-collect (λ v. eqb v x || has s v) v (omega arith) ∙ rw (eqb-below v x (omega arith)) (l .vectors v h);
       within = λ v h e. has-collect (λ v. eqb v x || has s v) v h ∙ sub (eqb v x) (l .within v h e);
     }
   where
@@ -105,7 +103,7 @@ levelled-gains : (x : ℕ) (u s t : List ℕ) → 31 ≤ x → Levelled s t → 
 unfolding insert
 levelled-gains x u s t g l =
     levelled (λ v. eqb v x || has s v) (λ v. has t v || (eqb v x && has u x))
-    (λ v h. rw (below x v g h) (l .vectors v h))
+    (λ v h. rw (eqb-below v x (omega arith)) (l .vectors v h))
     (λ v h. sub (has t v) (eqb v x) (has u x) (l .within v h))
   where
     sub : (d b e : Bool) {c : Bool} → (d ≡ true → c ≡ true) → (d || (b && e)) ≡ true → (b || c) ≡ true
@@ -133,7 +131,7 @@ unfolding admitsLevel
 vector-level a d x h = pick (bitOf d levelBit) (isVector (vectorField d)) (has a (vectorField d)) refl
   where
     pick : (b c e : Bool) → isVector (vectorField d) ≡ c → isLevel (cond (b && c && e) (some (vectorField d)) none) x ≡ false
-    pick true true true q = below (vectorField d) x (is-vector (vectorField d) q) h
+    pick true true true q = let g = is-vector (vectorField d) q in eqb-below x (vectorField d) (omega arith)
     pick true true false q = refl
     pick true false e q = refl
     pick false c e q = refl
@@ -165,11 +163,7 @@ sound-noticed a v q h =
   where
     sub : (d e b : Bool) {c : Bool} → (d ≡ true → c ≡ true) → (d || b) ≡ true → (c || e || b) ≡ true
     sub true e b h p = rw (h refl)
-    sub false e b {c} h p = rw p (last (c || e))
-      where
-        last : (t : Bool) → (t || true) ≡ true
-        last true = refl
-        last false = refl
+    sub false e b {c} h p = rw p (or-true (c || e))
 
 -- ---- what the numbers of a call ask for
 abbrev pub VectorItem : Item → Type 0

@@ -1,25 +1,26 @@
 -- The descriptor that a hand-back writes, read again by the notice rule. Demand 2: "a descriptor we hand back, read again by the notice rule with work
 -- announced and everything allowed, gives the NMI, the edge set and the highest level-sensitive vector that were pending."
 -- Assumes nothing.
-use mathlib.Core.Path.{_≡_, refl, sym, ap, _∙_, subst}
+use mathlib.Core.Path.{_≡_, refl, sym, ap, _∙_}
 use mathlib.Core.Bool.{Bool, true, false, cond, not, _&&_, _||_}
-use mathlib.Core.List.{List, [], _∷_, _++_}
+use mathlib.Core.List.{List}
 use mathlib.Core.Option.{Option, none, some, Option·getD}
-use Prim.Native.Nat.{ℕ, zero, suc, _+_, _*_, _-_, _^_, _<_, _≤_}
+use Prim.Native.Nat.{ℕ, _+_, _*_, _^_, _<_, _≤_}
 use native.Mathlib.Omega.{arith}
-use lib.Dec.{leb, ltb, eqb}
-use lib.ListN.{length, getD, take, drop, length-append, length-take, length-drop, List·getD-append}
+use lib.Dec.{leb, eqb}
+use lib.ListN.{length, getD, drop, length-append, length-take, length-drop, List·getD-append}
 use lib.Seq.{ext-getD, getD-take, getD-drop}
 use borrow.Author.Tests.{leb-true, leb-false, le-leb, lt-leb, eqb-true, eq-eqb, ne-eqb}
 use Rattle.model.specs.declared.Vcpu.{Vcpu}
 use Rattle.model.specs.Doorbell.{bitOf, bytesFrom, mapBits, announcingBit, announces, descriptor, vectorField, nmiBit, levelBit, manyBit, isVector, Part, isLevel, admitsNmi, admitsLevel, admitsEdge, admits, admitted, handedBit, servingBit, handedBytes, written}
 use Rattle.model.specs.Events.{handed}
 use Rattle.model.specs.Reached.{Levelled, Sound}
+use Rattle.model.specs.Tests.{or-false, or-true, and-true, and-false, eqb-above, eqb-below}
 use Rattle.model.specs.Bytes.{bitOf-byte, bytesFrom-at, bytesFrom-length, bytesFrom-bit, mapBits-length, mapBits-bit, written-length, written-at}
 use Rattle.vector_set.specs.Bits.{bitAt, bits}
 use Rattle.vector_set.specs.Sets.{has, collect, full, difference, highest, isNone, isEmpty}
-use Rattle.vector_set.specs.BitLaws.{bits-bit, bits-lt, bits-unique, bit-zero}
-use Rattle.vector_set.specs.Laws.{clash, has-full, collect-ext, has-collect, highest-has, highest-none, isEmpty-has, isEmpty-member}
+use Rattle.vector_set.specs.BitLaws.{bits-bit, bits-lt, bits-unique}
+use Rattle.vector_set.specs.Laws.{clash, has-full, collect-ext, has-collect, highest-has, isEmpty-has}
 
 -- "with work announced": the page with bit 7 + L of InjectionInfo set
 unfoldable pub announce : ℕ → List ℕ → List ℕ
@@ -30,28 +31,6 @@ unfoldable pub pending : Vcpu → Part
 pending v = record { nmi = v .nmi; level = highest (v .«irr_level»); edge = difference (v .irr) (v .«irr_level») }
 
 -- ---- the page
-or-false : (t : Bool) → (t || false) ≡ t
-or-false true = refl
-or-false false = refl
-
-or-true : (t : Bool) → (t || true) ≡ true
-or-true true = refl
-or-true false = refl
-
-and-true : (t : Bool) → (t && true) ≡ t
-and-true true = refl
-and-true false = refl
-
-and-false : (t : Bool) → (t && false) ≡ false
-and-false true = refl
-and-false false = refl
-
-above : (x a : ℕ) → a < x → eqb x a ≡ false
-above x a h = ne-eqb x a (λ (q : x ≡ a). omega arith)
-
-under : (x a : ℕ) → x < a → eqb x a ≡ false
-under x a h = ne-eqb x a (λ (q : x ≡ a). omega arith)
-
 announced : (l : ℕ) (q : List ℕ) → 256 ≤ length q → l ≤ 3 → announces l (announce l q) ≡ true
 unfolding announces announce
 announced l q long small =
@@ -153,12 +132,12 @@ module _ (v : Vcpu) (sound : Levelled (v .irr) (v .«irr_level»)) where
   unfolding descriptorBit handedBit
   bit-vector x g h =
       bit x h
-      ∙ rw (lt-leb x 7 (omega arith), above x 8 (omega arith), above x 10 (omega arith), above x 14 (omega arith), le-leb 31 x g, le-leb x 255 (omega arith))
+      ∙ rw (lt-leb x 7 (omega arith), eqb-above x 8 (omega arith), eqb-above x 10 (omega arith), eqb-above x 14 (omega arith), le-leb 31 x g, le-leb x 255 (omega arith))
 
   bit-field : (b : ℕ) → b < 8 → descriptorBit v b ≡ bitAt (Option·getD (highest (v .«irr_level»)) 0) b
   unfolding descriptorBit handedBit
   bit-field b h =
-      rw (le-leb b 7 (omega arith), under b 8 (omega arith), under b 10 (omega arith), under b 14 (omega arith), lt-leb 31 b (omega arith))
+      rw (le-leb b 7 (omega arith), eqb-below b 8 (omega arith), eqb-below b 10 (omega arith), eqb-below b 14 (omega arith), lt-leb 31 b (omega arith))
       (simp or-false)
 
   -- bits 7:0
@@ -216,7 +195,7 @@ module _ (v : Vcpu) (sound : Levelled (v .irr) (v .«irr_level»)) where
 
   -- with bits 10 and 14 clear, bits 7:0 are 0
   level-none : (x : ℕ) → 31 ≤ x → (o : Option ℕ) → (not (not (isNone o)) && eqb x (Option·getD o 0)) ≡ false
-  level-none x g none = above x 0 (omega arith)
+  level-none x g none = eqb-above x 0 (omega arith)
   level-none x g (some y) = refl
 
   high-edge : (x : ℕ) → 31 ≤ x → x < 256

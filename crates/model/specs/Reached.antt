@@ -36,7 +36,7 @@ use Rattle.vector_set.specs.Sets.{has, collect, empty, insert, remove, highest}
 use Rattle.vector_set.specs.Laws.{clash, Words, has-collect, has-empty, collect-words, highest-has}
 
 -- ---- what holds of a record
--- a set of vectors 31 to 255 and its level-sensitive part: "PL (within P)", "SL (within S)"
+-- a set of vectors 31 to 255 and its level-sensitive part: "PL (within P)", "SL (within S)"; eight words of 32 bits have no member above 255
 pub record Levelled (s t : List ℕ) : Type 0 where
   pub words : Words s
   pub level-words : Words t
@@ -49,6 +49,7 @@ VectorFlight flight.Nothing = Unit {0}
 VectorFlight flight.Nmi = Unit {0}
 VectorFlight (flight.Vector x) = 31 ≤ x
 
+-- what holds of each record of a module so reached
 pub record Sound (v : Vcpu) : Type 0 where
   pub allowed : Words (v .allowed)
   pub irr : Levelled (v .irr) (v .«irr_level»)

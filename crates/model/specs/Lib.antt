@@ -12,3 +12,10 @@ pub mod Alike
 pub mod Bound
 pub mod Allowed
 pub mod Claim
+pub mod Causes
+pub mod Tests
+pub mod Demand1
+pub mod Reached
+pub mod Bytes
+pub mod ReadBack
+pub mod Demand2

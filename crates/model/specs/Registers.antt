@@ -61,7 +61,7 @@ registerValue i v r =
     (cond (eqb r 0x830) (v .icr)
     (cond (within 0x810 0x817 r) (wordOf (v .isr) (r - 0x810))
     (cond (within 0x818 0x81F r) (wordOf (tmr v) (r - 0x818))
-    (wordOf (v .irr) (r - 0x820))))))))
+    (cond (within 0x820 0x827 r) (wordOf (v .irr) (r - 0x820)) 0)))))))
 
 -- ---- EOI
 -- "EOI takes the highest vector v out of S and SL"; "With S empty it succeeds and names none."

@@ -1,27 +1,40 @@
+-- `apic::icr::has_fixed_bits` meets its contract: each return rewrites with the tests that led there. Assumes nothing.
+use borrow.Author.Tests.{eq-eqb, ne-eqb}
+use Rattle.model.specs.Ipi.{icrFixedBits}
 use Rattle.apic.proofs.icr.has_fixed_bits.Statement.{statement}
 use Rattle.apic.proofs.icr.has_fixed_bits.Tie as tie
-use Rattle.apic.proofs.icr.has_fixed_bits.Reads as reads
-use Rattle.apic.proofs.icr.has_fixed_bits.Lts as lts
 
--- src/icr.rt:23:9
 returns : tie.Need-returns
-returns c = ?
+unfolding icrFixedBits
+returns c = simp (ne-eqb _ _ (c .if1 .taken))
 
--- src/icr.rt:26:9
 returns-2 : tie.Need-returns-2
-returns-2 c = ?
+unfolding icrFixedBits
+returns-2 c = simp (eq-eqb _ _ (c .before .if1 .left), eq-eqb _ _ (c .if2 .taken))
 
--- src/icr.rt:29:9
 returns-3 : tie.Need-returns-3
-returns-3 c = ?
+unfolding icrFixedBits
+returns-3 c = simp (eq-eqb _ _ (c .before .before .if1 .left), ne-eqb _ _ (c .before .if2 .left), ne-eqb _ _ (c .if3 .taken))
 
--- src/icr.rt:32:9
 returns-4 : tie.Need-returns-4
-returns-4 c = ?
+unfolding icrFixedBits
+returns-4 c =
+    simp (
+      eq-eqb _ _ (c .before .before .before .if1 .left),
+      ne-eqb _ _ (c .before .before .if2 .left),
+      eq-eqb _ _ (c .before .if3 .left),
+      ne-eqb _ _ (c .if4 .taken),
+    )
 
--- src/icr.rt:19:1
 returns-5 : tie.Need-returns-5
-returns-5 c = ?
+unfolding icrFixedBits
+returns-5 c =
+    rw (
+      eq-eqb _ _ (c .before .before .before .if1 .left),
+      ne-eqb _ _ (c .before .before .if2 .left),
+      eq-eqb _ _ (c .before .if3 .left),
+      eq-eqb _ _ (c .if4 .left),
+    )
 
 pub has-fixed-bits-spec : {M : Type 1} → statement M
 has-fixed-bits-spec = tie.close (tie.spec returns returns-2 returns-3 returns-4 returns-5)

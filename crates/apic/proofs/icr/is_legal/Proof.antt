@@ -1,43 +1,42 @@
+-- `apic::icr::is_legal` meets its contract: what its three callees ensure. Assumes nothing.
 use borrow.Author.Needs.{needs}
+use borrow.Author.Tests.{not-true, not-false}
+use Rattle.model.specs.Ipi.{icrLegal}
 use Rattle.apic.proofs.icr.is_legal.Statement.{statement}
 use Rattle.apic.proofs.icr.is_legal.Tie as tie
-use Rattle.apic.proofs.icr.is_legal.Reads as reads
-use Rattle.apic.proofs.icr.is_legal.Lts as lts
-use Rattle.apic.proofs.icr.has_fixed_bits.Reads as has-fixed-bits-reads
-use Rattle.apic.proofs.icr.is_fixed.Reads as is-fixed-reads
-use Rattle.apic.proofs.icr.is_nmi.Reads as is-nmi-reads
 
--- src/icr.rt:64:9
-has-fixed-bits-requires : tie.Need-has-fixed-bits-requires
-has-fixed-bits-requires c κs = search needs
-
--- src/icr.rt:65:9
 returns : tie.Need-returns
-returns c = ?
+unfolding icrLegal
+returns c = rw (← c .before .has-fixed-bits .ensures, not-true (c .before .has-fixed-bits .result) (c .if1 .taken))
 
--- src/icr.rt:67:8
-is-fixed-requires : tie.Need-is-fixed-requires
-is-fixed-requires c κs = search needs
-
--- src/icr.rt:68:9
 returns-2 : tie.Need-returns-2
-returns-2 c = ?
+unfolding icrLegal
+returns-2 c =
+    rw (
+      ← c .before .before .before .has-fixed-bits .ensures,
+      not-false (c .before .before .before .has-fixed-bits .result) (c .before .before .if1 .left),
+      ← c .before .is-fixed .ensures,
+      c .if2 .taken,
+    )
 
--- src/icr.rt:70:5
-is-nmi-requires : tie.Need-is-nmi-requires
-is-nmi-requires c κs = search needs
-
--- src/icr.rt:61:1
 returns-3 : tie.Need-returns-3
-returns-3 c = ?
+unfolding icrLegal
+returns-3 c =
+    rw (
+      ← c .before .before .before .before .has-fixed-bits .ensures,
+      not-false (c .before .before .before .before .has-fixed-bits .result) (c .before .before .before .if1 .left),
+      ← c .before .before .is-fixed .ensures,
+      c .before .if2 .left,
+    )
+    (c .is-nmi .ensures)
 
 pub is-legal-spec : {M : Type 1} → statement M
 is-legal-spec =
     tie.close
     (tie.spec
-    has-fixed-bits-requires
+    (λ c κs. search needs)
     returns
-    is-fixed-requires
+    (λ c κs. search needs)
     returns-2
-    is-nmi-requires
+    (λ c κs. search needs)
     returns-3)

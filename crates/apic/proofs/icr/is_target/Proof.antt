@@ -1,68 +1,45 @@
+-- `apic::icr::is_target` meets its contract: the target's case, then its tests. Assumes nothing.
 use borrow.Author.Needs.{needs}
+use borrow.Author.Tests.{eq-eqb, ne-eqb}
+use Rattle.model.specs.Ipi.{hits}
 use Rattle.apic.proofs.icr.is_target.Statement.{statement}
 use Rattle.apic.proofs.icr.is_target.Tie as tie
-use Rattle.apic.proofs.icr.is_target.Reads as reads
-use Rattle.apic.proofs.icr.is_target.Lts as lts
 
--- src/icr.rt:111:27
-enum-told : tie.Need-enum-told
-enum-told c = search needs
-
--- src/icr.rt:112:24
-enum-told-2 : tie.Need-enum-told-2
-enum-told-2 c = search needs
-
--- src/icr.rt:113:27
-enum-told-3 : tie.Need-enum-told-3
-enum-told-3 c = search needs
-
--- src/icr.rt:114:26
-enum-known-t : tie.Need-enum-known-t
-enum-known-t c = search needs
-
--- src/icr.rt:115:25
-enum-known-t-2 : tie.Need-enum-known-t-2
-enum-known-t-2 c = search needs
-
--- src/icr.rt:117:17
 returns : tie.Need-returns
-returns c = ?
+unfolding hits
+returns c = rw (c .before .before .t2 .given .1, ne-eqb _ _ (c .if1 .taken))
 
--- src/icr.rt:119:14
-shr-result : tie.Need-shr-result
-shr-result c = search needs
-
--- src/icr.rt:107:1
 returns-2 : tie.Need-returns-2
-returns-2 c = ?
+unfolding hits
+returns-2 c = rw (c .enum-told .given .1)
 
--- src/icr.rt:107:1
 returns-3 : tie.Need-returns-3
-returns-3 c = ?
+unfolding hits
+returns-3 c = rw (c .enum-told2 .given .1)
 
--- src/icr.rt:107:1
 returns-4 : tie.Need-returns-4
-returns-4 c = ?
+unfolding hits
+returns-4 c = rw (c .enum-told3 .given .1)
 
--- src/icr.rt:107:1
 returns-5 : tie.Need-returns-5
-returns-5 c = ?
+unfolding hits
+returns-5 c = rw (c .before .t .given .1)
 
--- src/icr.rt:107:1
 returns-6 : tie.Need-returns-6
-returns-6 c = ?
+unfolding hits
+returns-6 c = rw (c .before .before .t2 .given .1, eq-eqb _ _ (c .if1 .left))
 
 pub is-target-spec : {M : Type 1} → statement M
 is-target-spec =
     tie.close
     (tie.spec
-    enum-told
-    enum-told-2
-    enum-told-3
-    enum-known-t
-    enum-known-t-2
+    (λ c. search needs)
+    (λ c. search needs)
+    (λ c. search needs)
+    (λ c. search needs)
+    (λ c. search needs)
     returns
-    shr-result
+    (λ c. search needs)
     returns-2
     returns-3
     returns-4

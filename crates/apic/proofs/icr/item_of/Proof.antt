@@ -1,20 +1,17 @@
+-- `apic::icr::item_of` meets its contract: by the type. Assumes nothing.
 use borrow.Author.Needs.{needs}
+use borrow.Author.Tests.{eq-eqb, ne-eqb}
+use Rattle.model.specs.Ipi.{icrItem}
 use Rattle.apic.proofs.icr.item_of.Statement.{statement}
 use Rattle.apic.proofs.icr.item_of.Tie as tie
-use Rattle.apic.proofs.icr.item_of.Reads as reads
-use Rattle.apic.proofs.icr.item_of.Lts as lts
 
--- src/icr.rt:77:9
 returns : tie.Need-returns
-returns c = ?
+unfolding icrItem
+returns c = simp (eq-eqb _ _ (c .if1 .taken))
 
--- src/icr.rt:79:18
-cast-t5 : tie.Need-cast-t5
-cast-t5 c = search needs
-
--- src/icr.rt:73:1
 returns-2 : tie.Need-returns-2
-returns-2 c = ?
+unfolding icrItem
+returns-2 c = simp (ne-eqb _ _ (c .if1 .left))
 
 pub item-of-spec : {M : Type 1} → statement M
-item-of-spec = tie.close (tie.spec returns cast-t5 returns-2)
+item-of-spec = tie.close (tie.spec returns (λ c. search needs) returns-2)

@@ -1,41 +1,55 @@
+-- `apic::icr::target_of` meets its contract: each return rewrites with the tests that led there. Assumes nothing.
 use borrow.Author.Needs.{needs}
+use borrow.Author.Tests.{eq-eqb, ne-eqb}
+use Rattle.model.specs.Ipi.{icrTarget}
 use Rattle.apic.proofs.icr.target_of.Statement.{statement}
 use Rattle.apic.proofs.icr.target_of.Tie as tie
-use Rattle.apic.proofs.icr.target_of.Reads as reads
-use Rattle.apic.proofs.icr.target_of.Lts as lts
 
--- src/icr.rt:88:9
 returns : tie.Need-returns
-returns c = ?
+unfolding icrTarget
+returns c = simp (eq-eqb _ _ (c .if1 .taken))
 
--- src/icr.rt:91:9
 returns-2 : tie.Need-returns-2
-returns-2 c = ?
+unfolding icrTarget
+returns-2 c = simp (ne-eqb _ _ (c .before .if1 .left), eq-eqb _ _ (c .if2 .taken))
 
--- src/icr.rt:94:9
 returns-3 : tie.Need-returns-3
-returns-3 c = ?
+unfolding icrTarget
+returns-3 c = simp (ne-eqb _ _ (c .before .before .if1 .left), ne-eqb _ _ (c .before .if2 .left), eq-eqb _ _ (c .if3 .taken))
 
--- src/icr.rt:98:9
 returns-4 : tie.Need-returns-4
-returns-4 c = ?
+unfolding icrTarget
+returns-4 c =
+    simp (
+      ne-eqb _ _ (c .before .before .before .if1 .left),
+      ne-eqb _ _ (c .before .before .if2 .left),
+      ne-eqb _ _ (c .before .if3 .left),
+      eq-eqb _ _ (c .if4 .taken),
+    )
 
--- src/icr.rt:101:32
-cast-t7 : tie.Need-cast-t7
-cast-t7 c = search needs
-
--- src/icr.rt:101:9
 returns-5 : tie.Need-returns-5
-returns-5 c = ?
+unfolding icrTarget
+returns-5 c =
+    simp (
+      ne-eqb _ _ (c .before .before .before .before .if1 .left),
+      ne-eqb _ _ (c .before .before .before .if2 .left),
+      ne-eqb _ _ (c .before .before .if3 .left),
+      ne-eqb _ _ (c .before .if4 .left),
+      eq-eqb _ _ (c .if5 .taken),
+    )
 
--- src/icr.rt:103:22
-cast-t8 : tie.Need-cast-t8
-cast-t8 c = search needs
-
--- src/icr.rt:83:1
 returns-6 : tie.Need-returns-6
-returns-6 c = ?
+unfolding icrTarget
+returns-6 c =
+    simp (
+      ne-eqb _ _ (c .before .before .before .before .if1 .left),
+      ne-eqb _ _ (c .before .before .before .if2 .left),
+      ne-eqb _ _ (c .before .before .if3 .left),
+      ne-eqb _ _ (c .before .if4 .left),
+      ne-eqb _ _ (c .if5 .left),
+    )
 
 pub target-of-spec : {M : Type 1} → statement M
 target-of-spec =
-    tie.close (tie.spec returns returns-2 returns-3 returns-4 cast-t7 returns-5 cast-t8 returns-6)
+    tie.close
+    (tie.spec returns returns-2 returns-3 returns-4 (λ c. search needs) returns-5 (λ c. search needs) returns-6)

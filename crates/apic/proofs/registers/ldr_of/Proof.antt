@@ -1,32 +1,35 @@
+-- `apic::registers::ldr_of` meets its contract: the shifted 1 is a power below 2^16, and the cluster times 65,536 leaves room for it. Assumes nothing.
+use mathlib.Core.Path.{_≡_, _∙_}
+use Prim.Native.Nat.{ℕ, _*_, _%_, _^_, _<_}
+use native.Mathlib.Omega.{arith}
+use lib.Pow.{pow-lt, shl-exact}
 use borrow.Author.Needs.{needs}
+use Rattle.model.specs.Registers.{ldr}
 use Rattle.apic.proofs.registers.ldr_of.Statement.{statement}
 use Rattle.apic.proofs.registers.ldr_of.Tie as tie
-use Rattle.apic.proofs.registers.ldr_of.Reads as reads
-use Rattle.apic.proofs.registers.ldr_of.Lts as lts
 
--- src/registers.rt:25:26
-cast-bit : tie.Need-cast-bit
-cast-bit c = search needs
+-- `1 << b` of 64 bits
+shifted : (b : ℕ) → b < 16 → (1 * 2 ^ b) % 2 ^ 64 ≡ 2 ^ b
+shifted b l = shl-exact {a = 1} 1 b 64 (omega arith) (omega arith) ∙ omega arith
 
--- src/registers.rt:25:20
-shl-bit : tie.Need-shl-bit
-shl-bit c = search needs
-
--- src/registers.rt:26:5
-cast-result : tie.Need-cast-result
-cast-result c = search needs
-
--- src/registers.rt:26:5
-mul-result : tie.Need-mul-result
-mul-result c = search needs
-
--- src/registers.rt:26:5
 add-result : tie.Need-add-result
-add-result c = ?
+add-result c =
+    let b = c .args .id % 16 in
+    let e = shifted b (omega arith) in
+    let p = pow-lt {i = b} {j = 16} (omega arith) in
+    rw e (omega arith)
 
--- src/registers.rt:22:1
 returns : tie.Need-returns
-returns c = ?
+unfolding ldr
+returns c = rw (shifted (c .args .id % 16) (omega arith))
 
 pub ldr-of-spec : {M : Type 1} → statement M
-ldr-of-spec = tie.close (tie.spec cast-bit shl-bit cast-result mul-result add-result returns)
+ldr-of-spec =
+    tie.close
+    (tie.spec
+    (λ c. search needs)
+    (λ c. search needs)
+    (λ c. search needs)
+    (λ c. search needs)
+    add-result
+    returns)

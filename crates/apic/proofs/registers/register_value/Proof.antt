@@ -1,97 +1,143 @@
+-- `apic::registers::register_value` meets its contract: at a single number the definition computes; in a range and outside all of them its tests are settled by the number's bounds.
+-- Assumes nothing.
+use mathlib.Core.Path.{_≡_, sym, ap, _∙_}
+use mathlib.Core.Bool.{cond}
+use Prim.Native.Nat.{ℕ, _-_, _<_, _≤_}
+use native.Mathlib.Omega.{arith}
 use borrow.Author.Needs.{needs}
+use borrow.Author.Tests.{ne-eqb, le-leb, lt-leb}
+use Rattle.vector_set.specs.Sets.{wordOf}
+use Rattle.model.specs.Registers.{within, registerValue, ppr, tmr}
+use Rattle.model.specs.declared.Vcpu.{Vcpu}
 use Rattle.apic.proofs.registers.register_value.Statement.{statement}
 use Rattle.apic.proofs.registers.register_value.Tie as tie
-use Rattle.apic.proofs.registers.register_value.Reads as reads
-use Rattle.apic.proofs.registers.register_value.Lts as lts
-use Rattle.apic.proofs.registers.ldr_of.Reads as ldr-of-reads
-use Rattle.apic.proofs.registers.ppr.Reads as ppr-reads
-use Rattle.apic.proofs.registers.word_at.Reads as word-at-reads
-use Rattle.vector_set.proofs.union.Reads as union-reads
 
--- src/registers.rt:50:18
-cast-result : tie.Need-cast-result
-cast-result c = search needs
+module _ (i : ℕ) (v : Vcpu) (r : ℕ) where
+  -- the value of a number that is none of the single ones
+  abbrev ranged : ℕ
+  ranged =
+      cond (within 0x810 0x817 r) (wordOf (v .isr) (r - 0x810))
+      (cond (within 0x818 0x81F r) (wordOf (tmr v) (r - 0x818))
+      (cond (within 0x820 0x827 r) (wordOf (v .irr) (r - 0x820)) 0))
 
--- src/registers.rt:51:18
-ppr-requires : tie.Need-ppr-requires
-ppr-requires c κs = search needs
+  unnamed : (r ≡ 0x802 → ⊥) → (r ≡ 0x808 → ⊥) → (r ≡ 0x80A → ⊥) → (r ≡ 0x80D → ⊥) → (r ≡ 0x830 → ⊥) → registerValue i v r ≡ ranged
+  unfolding registerValue
+  unnamed a b c d e = simp (ne-eqb r 0x802 a, ne-eqb r 0x808 b, ne-eqb r 0x80A c, ne-eqb r 0x80D d, ne-eqb r 0x830 e)
 
--- src/registers.rt:51:18
-cast-result-2 : tie.Need-cast-result-2
-cast-result-2 c = search needs
+  in-range : 0x810 ≤ r → r < 0x828 → registerValue i v r ≡ ranged
+  in-range a b = unnamed (omega arith) (omega arith) (omega arith) (omega arith) (omega arith)
 
--- src/registers.rt:52:18
-ldr-of-requires : tie.Need-ldr-of-requires
-ldr-of-requires c κs = search needs
+  in-isr : 0x810 ≤ r → r < 0x818 → registerValue i v r ≡ wordOf (v .isr) (r - 0x810)
+  in-isr a b = in-range (omega arith) (omega arith) ∙ simp (le-leb 0x810 r (omega arith), le-leb r 0x817 (omega arith))
 
--- src/registers.rt:54:26
-word-at-requires : tie.Need-word-at-requires
-word-at-requires c κs = search needs
+  in-tmr : 0x818 ≤ r → r < 0x820 → registerValue i v r ≡ wordOf (tmr v) (r - 0x818)
+  in-tmr a b =
+      in-range (omega arith) (omega arith)
+      ∙ simp (
+        lt-leb r 0x817 (omega arith),
+        le-leb 0x810 r (omega arith),
+        le-leb 0x818 r (omega arith),
+        le-leb r 0x81F (omega arith),
+      )
 
--- src/registers.rt:55:34
-union-requires : tie.Need-union-requires
-union-requires c κs = search needs
+  in-irr : 0x820 ≤ r → r < 0x828 → registerValue i v r ≡ wordOf (v .irr) (r - 0x820)
+  in-irr a b =
+      in-range (omega arith) (omega arith)
+      ∙ simp (
+        le-leb 0x810 r (omega arith),
+        lt-leb r 0x817 (omega arith),
+        le-leb 0x818 r (omega arith),
+        lt-leb r 0x81F (omega arith),
+        le-leb 0x820 r (omega arith),
+        le-leb r 0x827 (omega arith),
+      )
 
--- src/registers.rt:55:26
-word-at-requires-2 : tie.Need-word-at-requires-2
-word-at-requires-2 c κs = search needs
+  below : r < 0x810 → ranged ≡ 0
+  below a = simp (lt-leb 0x810 r (omega arith), lt-leb 0x818 r (omega arith), lt-leb 0x820 r (omega arith))
 
--- src/registers.rt:56:26
-word-at-requires-3 : tie.Need-word-at-requires-3
-word-at-requires-3 c κs = search needs
+  above : 0x828 ≤ r → ranged ≡ 0
+  above a =
+      simp (
+        le-leb 0x810 r (omega arith),
+        lt-leb r 0x817 (omega arith),
+        le-leb 0x818 r (omega arith),
+        lt-leb r 0x81F (omega arith),
+        le-leb 0x820 r (omega arith),
+        lt-leb r 0x827 (omega arith),
+      )
 
--- src/registers.rt:41:1
 returns : tie.Need-returns
-returns c = ?
+unfolding registerValue
+returns c =
+    let a = c .before .before .before .before .before .args in
+    sym (ap (registerValue (a .id) (a .v)) (c .match .keys1))
 
--- src/registers.rt:41:1
 returns-2 : tie.Need-returns-2
-returns-2 c = ?
+unfolding registerValue
+returns-2 c =
+    let a = c .before .before .before .before .before .before .args in
+    sym (ap (registerValue (a .id) (a .v)) (c .before .match .keys2))
 
--- src/registers.rt:41:1
 returns-3 : tie.Need-returns-3
-returns-3 c = ?
+unfolding registerValue ppr
+returns-3 c =
+    let a = c .before .before .before .before .before .before .args in
+    c .ppr .ensures ∙ sym (ap (registerValue (a .id) (a .v)) (c .before .match .keys3))
 
--- src/registers.rt:41:1
 returns-4 : tie.Need-returns-4
-returns-4 c = ?
+unfolding registerValue
+returns-4 c =
+    let a = c .before .before .before .before .before .before .args in
+    c .ldr-of .ensures ∙ sym (ap (registerValue (a .id) (a .v)) (c .before .match .keys4))
 
--- src/registers.rt:41:1
 returns-5 : tie.Need-returns-5
-returns-5 c = ?
+unfolding registerValue
+returns-5 c =
+    let a = c .before .before .before .before .before .args in
+    sym (ap (registerValue (a .id) (a .v)) (c .match .keys5))
 
--- src/registers.rt:41:1
 returns-6 : tie.Need-returns-6
-returns-6 c = ?
+returns-6 c =
+    let a = c .before .before .before .before .before .before .before .before .args in
+    c .word-at .ensures ∙ sym (in-isr (a .id) (a .v) (a .r) (omega arith) (omega arith))
 
--- src/registers.rt:41:1
 returns-7 : tie.Need-returns-7
-returns-7 c = ?
+unfolding tmr
+returns-7 c =
+    let a = c .before .before .before .before .before .before .before .before .before .before .args in
+    c .word-at2 .ensures
+    ∙ ap (λ s. wordOf s (a .r - 0x818)) (c .before .union .ensures)
+    ∙ sym (in-tmr (a .id) (a .v) (a .r) (omega arith) (omega arith))
 
--- src/registers.rt:41:1
 returns-8 : tie.Need-returns-8
-returns-8 c = ?
+returns-8 c =
+    let a = c .before .before .before .before .before .before .before .before .before .before .args in
+    c .word-at3 .ensures ∙ sym (in-irr (a .id) (a .v) (a .r) (omega arith) (omega arith))
 
--- src/registers.rt:41:1
 returns-9 : tie.Need-returns-9
-returns-9 c = ?
+returns-9 c =
+    let a = c .before .before .before .before .before .before .args in
+    let n = c .before .match .rest in
+    sym (unnamed (a .id) (a .v) (a .r) (n .0 .0 .0 .0 .1) (n .0 .0 .0 .1) (n .0 .0 .1) (n .0 .1) (n .1) ∙ below (a .id) (a .v) (a .r) (c .if1 .taken))
 
--- src/registers.rt:41:1
 returns-10 : tie.Need-returns-10
-returns-10 c = ?
+returns-10 c =
+    let a = c .before .before .before .before .before .before .before .before .before .args in
+    let n = c .before .before .before .before .match .rest in
+    sym (unnamed (a .id) (a .v) (a .r) (n .0 .0 .0 .0 .1) (n .0 .0 .0 .1) (n .0 .0 .1) (n .0 .1) (n .1) ∙ above (a .id) (a .v) (a .r) (c .if4 .left))
 
 pub register-value-spec : {M : Type 1} → statement M
 register-value-spec =
     tie.close
     (tie.spec
-    cast-result
-    ppr-requires
-    cast-result-2
-    ldr-of-requires
-    word-at-requires
-    union-requires
-    word-at-requires-2
-    word-at-requires-3
+    (λ c. search needs)
+    (λ c κs. search needs)
+    (λ c. search needs)
+    (λ c κs. search needs)
+    (λ c κs. search needs)
+    (λ c κs. search needs)
+    (λ c κs. search needs)
+    (λ c κs. search needs)
     returns
     returns-2
     returns-3

@@ -12,8 +12,9 @@ const W: u8 = 2;
 
 const B: u8 = 3;
 
-// One kind for each register 0x800 to 0x8FF, sixteen to a row.
+// One kind for each register 0x800 to 0x8FF.
 const KINDS: [u8; 256] = [
+    // 0x800
     N,
     N,
     R,
@@ -30,6 +31,7 @@ const KINDS: [u8; 256] = [
     R,
     N,
     N,
+    // 0x810
     R,
     R,
     R,
@@ -46,6 +48,7 @@ const KINDS: [u8; 256] = [
     R,
     R,
     R,
+    // 0x820
     R,
     R,
     R,
@@ -62,6 +65,7 @@ const KINDS: [u8; 256] = [
     N,
     N,
     N,
+    // 0x830
     B,
     N,
     N,
@@ -78,6 +82,7 @@ const KINDS: [u8; 256] = [
     N,
     N,
     W,
+    // 0x840
     N,
     N,
     N,
@@ -94,6 +99,7 @@ const KINDS: [u8; 256] = [
     N,
     N,
     N,
+    // 0x850
     N,
     N,
     N,
@@ -110,6 +116,7 @@ const KINDS: [u8; 256] = [
     N,
     N,
     N,
+    // 0x860
     N,
     N,
     N,
@@ -126,6 +133,7 @@ const KINDS: [u8; 256] = [
     N,
     N,
     N,
+    // 0x870
     N,
     N,
     N,
@@ -142,6 +150,7 @@ const KINDS: [u8; 256] = [
     N,
     N,
     N,
+    // 0x880
     N,
     N,
     N,
@@ -158,6 +167,7 @@ const KINDS: [u8; 256] = [
     N,
     N,
     N,
+    // 0x890
     N,
     N,
     N,
@@ -174,6 +184,7 @@ const KINDS: [u8; 256] = [
     N,
     N,
     N,
+    // 0x8A0
     N,
     N,
     N,
@@ -190,6 +201,7 @@ const KINDS: [u8; 256] = [
     N,
     N,
     N,
+    // 0x8B0
     N,
     N,
     N,
@@ -206,6 +218,7 @@ const KINDS: [u8; 256] = [
     N,
     N,
     N,
+    // 0x8C0
     N,
     N,
     N,
@@ -222,6 +235,7 @@ const KINDS: [u8; 256] = [
     N,
     N,
     N,
+    // 0x8D0
     N,
     N,
     N,
@@ -238,6 +252,7 @@ const KINDS: [u8; 256] = [
     N,
     N,
     N,
+    // 0x8E0
     N,
     N,
     N,
@@ -254,6 +269,7 @@ const KINDS: [u8; 256] = [
     N,
     N,
     N,
+    // 0x8F0
     N,
     N,
     N,

@@ -38,7 +38,6 @@ fn read_of(r: u32) -> Request
     }
 }
 
-
 // A value written to a register that may be written.
 fn value_of(r: u32, x: u64) -> Request
     ensures { λ q. ⌜ q ≡ writeValue r x ⌝ }

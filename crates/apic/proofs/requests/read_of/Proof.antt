@@ -1,55 +1,30 @@
+-- `apic::requests::read_of` meets its contract: the register's kind decides.
+-- Assumes nothing.
 use borrow.Author.Needs.{needs}
 use Rattle.apic.proofs.requests.read_of.Statement.{statement}
 use Rattle.apic.proofs.requests.read_of.Tie as tie
-use Rattle.apic.proofs.requests.read_of.Reads as reads
-use Rattle.apic.proofs.requests.read_of.Lts as lts
-use Rattle.apic.proofs.kinds.kind_of.Reads as kind-of-reads
 
--- src/requests.rt:32:9
-kind-of-requires : tie.Need-kind-of-requires
-kind-of-requires c κs = search needs
-
--- src/requests.rt:34:40
-enum-told : tie.Need-enum-told
-enum-told c = search needs
-
--- src/requests.rt:35:38
-enum-told-2 : tie.Need-enum-told-2
-enum-told-2 c = search needs
-
--- src/requests.rt:36:41
-enum-told-3 : tie.Need-enum-told-3
-enum-told-3 c = search needs
-
--- src/requests.rt:37:38
-enum-told-4 : tie.Need-enum-told-4
-enum-told-4 c = search needs
-
--- src/requests.rt:29:1
 returns : tie.Need-returns
-returns c = ?
+returns c = rw (← c .before .before .kind-of .ensures, c .enum-told .given .1)
 
--- src/requests.rt:29:1
 returns-2 : tie.Need-returns-2
-returns-2 c = ?
+returns-2 c = rw (← c .before .before .kind-of .ensures, c .enum-told2 .given .1)
 
--- src/requests.rt:29:1
 returns-3 : tie.Need-returns-3
-returns-3 c = ?
+returns-3 c = rw (← c .before .before .kind-of .ensures, c .enum-told3 .given .1)
 
--- src/requests.rt:29:1
 returns-4 : tie.Need-returns-4
-returns-4 c = ?
+returns-4 c = rw (← c .before .before .kind-of .ensures, c .enum-told4 .given .1)
 
 pub read-of-spec : {M : Type 1} → statement M
 read-of-spec =
     tie.close
     (tie.spec
-    kind-of-requires
-    enum-told
-    enum-told-2
-    enum-told-3
-    enum-told-4
+    (λ c κs. search needs)
+    (λ c. search needs)
+    (λ c. search needs)
+    (λ c. search needs)
+    (λ c. search needs)
     returns
     returns-2
     returns-3

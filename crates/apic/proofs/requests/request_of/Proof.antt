@@ -1,61 +1,64 @@
+-- `apic::requests::request_of` meets its contract: at each call number the definition computes to what the callee ensures; at another its tests fail.
+-- Assumes nothing.
+use mathlib.Core.Path.{sym, ap, _∙_}
+use Prim.Native.Nat.{ℕ}
 use borrow.Author.Needs.{needs}
+use borrow.Author.Tests.{ne-eqb}
+use Rattle.model.specs.Requests.{requestOf}
 use Rattle.apic.proofs.requests.request_of.Statement.{statement}
 use Rattle.apic.proofs.requests.request_of.Tie as tie
-use Rattle.apic.proofs.requests.request_of.Reads as reads
-use Rattle.apic.proofs.requests.request_of.Lts as lts
-use Rattle.apic.proofs.requests.permission_of.Reads as permission-of-reads
-use Rattle.apic.proofs.requests.read_of.Reads as read-of-reads
-use Rattle.apic.proofs.requests.registration_of.Reads as registration-of-reads
-use Rattle.apic.proofs.requests.write_of.Reads as write-of-reads
 
--- src/requests.rt:118:14
-registration-of-requires : tie.Need-registration-of-requires
-registration-of-requires c κs = search needs
-
--- src/requests.rt:119:14
-read-of-requires : tie.Need-read-of-requires
-read-of-requires c κs = search needs
-
--- src/requests.rt:120:14
-write-of-requires : tie.Need-write-of-requires
-write-of-requires c κs = search needs
-
--- src/requests.rt:121:14
-permission-of-requires : tie.Need-permission-of-requires
-permission-of-requires c κs = search needs
-
--- src/requests.rt:113:1
 returns : tie.Need-returns
-returns c = ?
+unfolding requestOf
+returns c =
+    let a = c .before .args in
+    sym (ap (λ (n : ℕ). requestOf n (a .ecx) (a .rdx)) (c .match .keys1))
 
--- src/requests.rt:113:1
 returns-2 : tie.Need-returns-2
-returns-2 c = ?
+unfolding requestOf
+returns-2 c =
+    let a = c .before .before .args in
+    c .registration-of .ensures ∙ sym (ap (λ (n : ℕ). requestOf n (a .ecx) (a .rdx)) (c .before .match .keys2))
 
--- src/requests.rt:113:1
 returns-3 : tie.Need-returns-3
-returns-3 c = ?
+unfolding requestOf
+returns-3 c =
+    let a = c .before .before .args in
+    c .read-of .ensures ∙ sym (ap (λ (n : ℕ). requestOf n (a .ecx) (a .rdx)) (c .before .match .keys3))
 
--- src/requests.rt:113:1
 returns-4 : tie.Need-returns-4
-returns-4 c = ?
+unfolding requestOf
+returns-4 c =
+    let a = c .before .before .args in
+    c .write-of .ensures ∙ sym (ap (λ (n : ℕ). requestOf n (a .ecx) (a .rdx)) (c .before .match .keys4))
 
--- src/requests.rt:113:1
 returns-5 : tie.Need-returns-5
-returns-5 c = ?
+unfolding requestOf
+returns-5 c =
+    let a = c .before .before .args in
+    c .permission-of .ensures ∙ sym (ap (λ (n : ℕ). requestOf n (a .ecx) (a .rdx)) (c .before .match .keys5))
 
--- src/requests.rt:113:1
 returns-6 : tie.Need-returns-6
-returns-6 c = ?
+unfolding requestOf
+returns-6 c =
+    let x = c .before .args .call in
+    let n = c .match .rest in
+    rw (
+      ne-eqb x 0 (n .0 .0 .0 .0 .1),
+      ne-eqb x 1 (n .0 .0 .0 .1),
+      ne-eqb x 2 (n .0 .0 .1),
+      ne-eqb x 3 (n .0 .1),
+      ne-eqb x 4 (n .1),
+    )
 
 pub request-of-spec : {M : Type 1} → statement M
 request-of-spec =
     tie.close
     (tie.spec
-    registration-of-requires
-    read-of-requires
-    write-of-requires
-    permission-of-requires
+    (λ c κs. search needs)
+    (λ c κs. search needs)
+    (λ c κs. search needs)
+    (λ c κs. search needs)
     returns
     returns-2
     returns-3

@@ -1,72 +1,33 @@
+-- `apic::requests::write_of` meets its contract: the register's kind decides.
+-- Assumes nothing.
 use borrow.Author.Needs.{needs}
 use Rattle.apic.proofs.requests.write_of.Statement.{statement}
 use Rattle.apic.proofs.requests.write_of.Tie as tie
-use Rattle.apic.proofs.requests.write_of.Reads as reads
-use Rattle.apic.proofs.requests.write_of.Lts as lts
-use Rattle.apic.proofs.kinds.kind_of.Reads as kind-of-reads
-use Rattle.apic.proofs.requests.bad.Reads as bad-reads
-use Rattle.apic.proofs.requests.value_of.Reads as value-of-reads
 
--- src/requests.rt:77:9
-kind-of-requires : tie.Need-kind-of-requires
-kind-of-requires c κs = search needs
-
--- src/requests.rt:79:40
-enum-told : tie.Need-enum-told
-enum-told c = search needs
-
--- src/requests.rt:80:23
-enum-told-2 : tie.Need-enum-told-2
-enum-told-2 c = search needs
-
--- src/requests.rt:80:23
-bad-requires : tie.Need-bad-requires
-bad-requires c κs = search needs
-
--- src/requests.rt:81:24
-enum-told-3 : tie.Need-enum-told-3
-enum-told-3 c = search needs
-
--- src/requests.rt:81:24
-value-of-requires : tie.Need-value-of-requires
-value-of-requires c κs = search needs
-
--- src/requests.rt:82:23
-enum-told-4 : tie.Need-enum-told-4
-enum-told-4 c = search needs
-
--- src/requests.rt:82:23
-value-of-requires-2 : tie.Need-value-of-requires-2
-value-of-requires-2 c κs = search needs
-
--- src/requests.rt:74:1
 returns : tie.Need-returns
-returns c = ?
+returns c = rw (← c .before .before .kind-of .ensures, c .enum-told .given .1)
 
--- src/requests.rt:74:1
 returns-2 : tie.Need-returns-2
-returns-2 c = ?
+returns-2 c = rw (← c .before .before .before .kind-of .ensures, c .before .enum-told2 .given .1) (c .bad .ensures)
 
--- src/requests.rt:74:1
 returns-3 : tie.Need-returns-3
-returns-3 c = ?
+returns-3 c = rw (← c .before .before .before .kind-of .ensures, c .before .enum-told3 .given .1) (c .value-of .ensures)
 
--- src/requests.rt:74:1
 returns-4 : tie.Need-returns-4
-returns-4 c = ?
+returns-4 c = rw (← c .before .before .before .kind-of .ensures, c .before .enum-told4 .given .1) (c .value-of2 .ensures)
 
 pub write-of-spec : {M : Type 1} → statement M
 write-of-spec =
     tie.close
     (tie.spec
-    kind-of-requires
-    enum-told
-    enum-told-2
-    bad-requires
-    enum-told-3
-    value-of-requires
-    enum-told-4
-    value-of-requires-2
+    (λ c κs. search needs)
+    (λ c. search needs)
+    (λ c. search needs)
+    (λ c κs. search needs)
+    (λ c. search needs)
+    (λ c κs. search needs)
+    (λ c. search needs)
+    (λ c κs. search needs)
     returns
     returns-2
     returns-3

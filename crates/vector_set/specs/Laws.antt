@@ -6,53 +6,16 @@ use mathlib.Core.List.{List, [], _∷_}
 use mathlib.Core.Option.{Option, none, some}
 use Prim.Native.Nat.{ℕ, zero, suc, _+_, _*_, _/_, _%_, _^_, _<_, _≤_}
 use native.Mathlib.Omega.{arith}
-use native.Mathlib.Nat.{div-div-eq-div-mul, pow-succ', not-suc-le-zero, le-of-suc-le-suc, div-one}
+use native.Mathlib.Nat.{not-suc-le-zero, le-of-suc-le-suc}
 use lib.Dec.{eqb, leb, ltb}
 use lib.ListN.{length, getD}
 use lib.Seq.{ext-getD}
-use borrow.Author.Tests.{eqb-true, eqb-false}
+use borrow.Author.Tests.{eqb-true, eqb-false, eq-eqb, ne-eqb}
 use Rattle.vector_set.specs.Bits.{one, bitAt, bits}
-use Rattle.vector_set.specs.Sets.{has, words, collect, empty, full, insert, remove, union, difference, intersection, from, highestBelow, highest, countBelow, count, isEmpty, wordOf}
+pub use Rattle.vector_set.specs.BitLaws.{clash, one-eqb, one-le, bits-at, bits-bit, bits-lt, bits-ext, number-ext, bits-number, bits-unique}
+use Rattle.vector_set.specs.Sets.{has, words, collect, empty, full, insert, remove, union, difference, intersection, from, highestBelow, highest, countBelow, count, isNone, isEmpty, wordOf}
 
--- anything follows where two constructors would be equal: `clash (cc)`
-pub clash : {A : Type 0} → _≡_ {A = ℕ} 0 1 → A
-clash e = let z : ⊥ = omega arith in absurd z
-
--- ---- bits
-one-odd : (b : Bool) (y : ℕ) → (one b + 2 * y) % 2 ≡ one b
-one-odd true y = omega arith
-one-odd false y = omega arith
-
-one-half : (b : Bool) (y : ℕ) → (one b + 2 * y) / 2 ≡ y
-one-half true y = omega arith
-one-half false y = omega arith
-
-one-eqb : (b : Bool) → eqb (one b) 1 ≡ b
-one-eqb true = refl
-one-eqb false = refl
-
-shift : (x b : ℕ) → x / 2 ^ suc b ≡ x / 2 / 2 ^ b
-shift x b = rw (div-div-eq-div-mul, pow-succ')
-
-bits-at : (f : ℕ → Bool) (k n b : ℕ) → b < n → bits f k n / 2 ^ b % 2 ≡ one (f (k + b))
-unfolding bits
-bits-at f k zero b h = absurd (not-suc-le-zero h)
-bits-at f k (suc n) zero h =
-    let e : k + 0 ≡ k = omega arith in rw (e, div-one, one-odd)
-bits-at f k (suc n) (suc b) h =
-    let e : k + suc b ≡ suc k + b = omega arith in
-    rw (e, shift, one-half) (bits-at f (suc k) n b (le-of-suc-le-suc h))
-
-pub bits-lt : (f : ℕ → Bool) (k n : ℕ) → bits f k n < 2 ^ n
-unfolding bits
-bits-lt f k zero = omega arith
-bits-lt f k (suc n) = go (f k) (bits-lt f (suc k) n)
-  where
-    go : (b : Bool) {y : ℕ} → y < 2 ^ n → one b + 2 * y < 2 ^ suc n
-    go true h = omega arith
-    go false h = omega arith
-
-words-at : (f : ℕ → Bool) (k n i : ℕ) → i < n → getD (words f k n) i 0 ≡ bits f (32 * (k + i)) 32
+pub words-at : (f : ℕ → Bool) (k n i : ℕ) → i < n → getD (words f k n) i 0 ≡ bits f (32 * (k + i)) 32
 unfolding words
 words-at f k zero i h = absurd (not-suc-le-zero h)
 words-at f k (suc n) zero h = let e : k + 0 ≡ k = omega arith in rw e
@@ -73,15 +36,6 @@ pub record Words (s : List ℕ) : Type 0 where
   pub eight : length s ≡ 8
   pub small : (i : ℕ) → i < 8 → getD s i 0 < 2 ^ 32
 
-bits-ext : (f g : ℕ → Bool) (k n : ℕ) → ((b : ℕ) → b < n → f (k + b) ≡ g (k + b)) → bits f k n ≡ bits g k n
-unfolding bits
-bits-ext f g k zero h = refl
-bits-ext f g k (suc n) h =
-    let e : k + 0 ≡ k = omega arith in
-    let z : f k ≡ g k = subst (λ (j : ℕ). f j ≡ g j) e (h 0 (omega arith)) in
-    let t = bits-ext f g (suc k) n (λ b l. let d : k + suc b ≡ suc k + b = omega arith in subst (λ (j : ℕ). f j ≡ g j) d (h (suc b) (omega arith))) in
-    rw (z, t)
-
 words-ext : (f g : ℕ → Bool) (k n : ℕ) → ((v : ℕ) → v < 32 * (k + n) → f v ≡ g v) → words f k n ≡ words g k n
 unfolding words
 words-ext f g k zero h = refl
@@ -94,30 +48,21 @@ pub collect-ext : (f g : ℕ → Bool) → ((v : ℕ) → v < 256 → f v ≡ g 
 unfolding collect
 collect-ext f g h = words-ext f g 0 8 h
 
-eqb-one : (x y : ℕ) → x < 2 → y < 2 → eqb x 1 ≡ eqb y 1 → x ≡ y
-eqb-one x y hx hy e = go (eqb x 1) (eqb y 1) refl refl e
-  where
-    go : (a b : Bool) → eqb x 1 ≡ a → eqb y 1 ≡ b → a ≡ b → x ≡ y
-    go true true p q r = omega (arith, eqb-true x 1 p, eqb-true y 1 q)
-    go false false p q r =
-        let nx : x ≡ 1 → ⊥ = eqb-false x 1 p in
-        let ny : y ≡ 1 → ⊥ = eqb-false y 1 q in
-        omega arith
-    go true false p q r = clash (cc)
-    go false true p q r = clash (cc)
+-- bit b of word k is the member 32 k + b
+pub has-word : (s : List ℕ) (k b : ℕ) → b < 32 → has s (32 * k + b) ≡ bitAt (getD s k 0) b
+unfolding has
+has-word s k b l =
+    let d : (32 * k + b) / 32 ≡ k = omega arith in
+    let m : (32 * k + b) % 32 ≡ b = omega arith in
+    rw (d, m)
 
-number-ext : (n x y : ℕ) → x < 2 ^ n → y < 2 ^ n → ((b : ℕ) → b < n → bitAt x b ≡ bitAt y b) → x ≡ y
-number-ext zero x y hx hy h = omega arith
-number-ext (suc n) x y hx hy h =
-    let up : x / 2 ≡ y / 2 = number-ext n (x / 2) (y / 2) (omega arith) (omega arith)
-    (λ b l. subst (λ (t : ℕ). eqb (t % 2) 1 ≡ eqb (y / 2 / 2 ^ b % 2) 1) (shift x b)
-    (subst (λ (t : ℕ). eqb (x / 2 ^ suc b % 2) 1 ≡ eqb (t % 2) 1) (shift y b) (h (suc b) (omega arith)))) in
-    let z : bitAt x 0 ≡ bitAt y 0 = h 0 (omega arith) in
-    let low : x % 2 ≡ y % 2 = eqb-one (x % 2) (y % 2) (omega arith) (omega arith) (rw (div-one x, div-one y) at z) in
-    omega arith
+-- the word of a set is the word that is stored
+pub wordOf-word : (s : List ℕ) → Words s → (k : ℕ) → k < 8 → wordOf s k ≡ getD s k 0
+unfolding wordOf
+wordOf-word s w k l =
+    sym (bits-unique (λ v. has s v) (32 * k) 32 (getD s k 0) (w .small k l) (λ b r. sym (has-word s k b r)))
 
 pub set-ext : (s t : List ℕ) → Words s → Words t → ((v : ℕ) → v < 256 → has s v ≡ has t v) → s ≡ t
-unfolding has
 set-ext s t ws wt h =
     ext-getD 0 s t (ws .eight ∙ sym (wt .eight))
     (λ i l. word i (omega arith))
@@ -125,10 +70,7 @@ set-ext s t ws wt h =
     word : (i : ℕ) → i < 8 → getD s i 0 ≡ getD t i 0
     word i l =
         number-ext 32 (getD s i 0) (getD t i 0) (ws .small i l) (wt .small i l)
-        (λ b r.
-        let d : (32 * i + b) / 32 ≡ i = omega arith in
-        let m : (32 * i + b) % 32 ≡ b = omega arith in
-        rw (d, m) at (h (32 * i + b) (omega arith)))
+        (λ b r. sym (has-word s i b r) ∙ h (32 * i + b) (omega arith) ∙ has-word t i b r)
 
 words-words : (f : ℕ → Bool) (k n : ℕ) → length (words f k n) ≡ n
 unfolding words
@@ -140,6 +82,10 @@ unfolding collect
 collect-words f = record { eight = words-words f 0 8; small = λ i l. rw (words-at f 0 8 i l) (bits-lt f (32 * (0 + i)) 32) }
 
 -- ---- the members of each set
+or-false : (b : Bool) → (b || false) ≡ b
+or-false true = refl
+or-false false = refl
+
 pub has-empty : (v : ℕ) → v < 256 → has empty v ≡ false
 unfolding empty
 has-empty v h = has-collect (λ v. false) v h
@@ -183,7 +129,212 @@ below-has s (suc n) v e = go (has s n) refl e (λ q. below-has s n v q)
     go true p q ih = let d : n ≡ v = cc in (rw (← d) p, omega arith)
     go false p q ih = let r = ih q in (r .0, omega arith)
 
+-- what holds below n, and at n, holds below n + 1
+step : (P : ℕ → Type 0) (n : ℕ) → P n → ((v : ℕ) → v < n → P v) → (v : ℕ) → v < suc n → P v
+step P n p h v l = go (eqb v n) refl
+  where
+    go : (b : Bool) → eqb v n ≡ b → P v
+    go true e = subst P (sym (eqb-true v n e)) p
+    go false e = let d : v ≡ n → ⊥ = eqb-false v n e in h v (omega arith)
+
+below-none : (s : List ℕ) (n : ℕ) → highestBelow s n ≡ none → (v : ℕ) → v < n → has s v ≡ false
+unfolding highestBelow
+below-none s zero e = λ v l. absurd (not-suc-le-zero l)
+below-none s (suc n) e = go (has s n) refl e (λ q. below-none s n q)
+  where
+    go : (b : Bool) → has s n ≡ b → cond b (some n) (highestBelow s n) ≡ none → (highestBelow s n ≡ none → (v : ℕ) → v < n → has s v ≡ false)
+        → (v : ℕ) → v < suc n → has s v ≡ false
+    go true p q ih = clash (cc)
+    go false p q ih = step (λ (v : ℕ). has s v ≡ false) n p (ih q)
+
+below-max : (s : List ℕ) (n v : ℕ) → highestBelow s n ≡ some v → (w : ℕ) → w < n → v < w → has s w ≡ false
+unfolding highestBelow
+below-max s zero v e = λ w l. absurd (not-suc-le-zero l)
+below-max s (suc n) v e = go (has s n) refl e (λ q. below-max s n v q)
+  where
+    go : (b : Bool) → has s n ≡ b → cond b (some n) (highestBelow s n) ≡ some v → (highestBelow s n ≡ some v → (w : ℕ) → w < n → v < w → has s w ≡ false)
+        → (w : ℕ) → w < suc n → v < w → has s w ≡ false
+    go true p q ih = λ w l g. let d : n ≡ v = cc in let z : ⊥ = omega arith in absurd z
+    go false p q ih = step (λ (w : ℕ). v < w → has s w ≡ false) n (λ g. p) (ih q)
+
+below-is : (s : List ℕ) (n v : ℕ) → v < n → has s v ≡ true → ((w : ℕ) → w < n → v < w → has s w ≡ false) → highestBelow s n ≡ some v
+unfolding highestBelow
+below-is s zero v l p h = absurd (not-suc-le-zero l)
+below-is s (suc n) v l p h = go (eqb v n) refl (λ m. below-is s n v m p (λ w k g. h w (omega arith) g))
+  where
+    go : (b : Bool) → eqb v n ≡ b → (v < n → highestBelow s n ≡ some v) → cond (has s n) (some n) (highestBelow s n) ≡ some v
+    go true e ih = let d : v ≡ n = eqb-true v n e in let t : has s n ≡ true = rw (← d) p in rw (t, d)
+    go false e ih =
+        let d : v ≡ n → ⊥ = eqb-false v n e in
+        let t : has s n ≡ false = h n (omega arith) (omega arith) in
+        rw t (ih (omega arith))
+
+below-no : (s : List ℕ) (n : ℕ) → ((v : ℕ) → v < n → has s v ≡ false) → highestBelow s n ≡ none
+unfolding highestBelow
+below-no s zero h = refl
+below-no s (suc n) h = let t : has s n ≡ false = h n (omega arith) in rw t (below-no s n (λ v l. h v (omega arith)))
+
+below-ext : (s t : List ℕ) (n : ℕ) → ((v : ℕ) → v < n → has s v ≡ has t v) → highestBelow s n ≡ highestBelow t n
+unfolding highestBelow
+below-ext s t zero h = refl
+below-ext s t (suc n) h =
+    let e : has s n ≡ has t n = h n (omega arith) in
+    let r = below-ext s t n (λ v l. h v (omega arith)) in
+    rw (e, r)
+
 -- the highest is a member
 pub highest-has : (s : List ℕ) (v : ℕ) → highest s ≡ some v → (has s v ≡ true) × (v < 256)
 unfolding highest
 highest-has s v e = below-has s 256 v e
+
+-- none above it is
+pub highest-max : (s : List ℕ) (v : ℕ) → highest s ≡ some v → (w : ℕ) → w < 256 → v < w → has s w ≡ false
+unfolding highest
+highest-max s v e = below-max s 256 v e
+
+pub highest-none : (s : List ℕ) → highest s ≡ none → (v : ℕ) → v < 256 → has s v ≡ false
+unfolding highest
+highest-none s e = below-none s 256 e
+
+-- a member with none above it is the highest
+pub highest-is : (s : List ℕ) (v : ℕ) → v < 256 → has s v ≡ true → ((w : ℕ) → w < 256 → v < w → has s w ≡ false) → highest s ≡ some v
+unfolding highest
+highest-is s v l p h = below-is s 256 v l p h
+
+pub highest-no : (s : List ℕ) → ((v : ℕ) → v < 256 → has s v ≡ false) → highest s ≡ none
+unfolding highest
+highest-no s h = below-no s 256 h
+
+pub highest-ext : (s t : List ℕ) → ((v : ℕ) → v < 256 → has s v ≡ has t v) → highest s ≡ highest t
+unfolding highest
+highest-ext s t h = below-ext s t 256 h
+
+pub highest-empty : highest empty ≡ none
+highest-empty = highest-no empty has-empty
+
+-- ---- no member
+pub isEmpty-has : (s : List ℕ) → isEmpty s ≡ true → (v : ℕ) → v < 256 → has s v ≡ false
+unfolding isEmpty
+isEmpty-has s e = go (highest s) refl e
+  where
+    go : (o : Option ℕ) → highest s ≡ o → isNone o ≡ true → (v : ℕ) → v < 256 → has s v ≡ false
+    go none p q = highest-none s p
+    go (some w) p q = clash (cc)
+
+pub isEmpty-no : (s : List ℕ) → ((v : ℕ) → v < 256 → has s v ≡ false) → isEmpty s ≡ true
+unfolding isEmpty
+isEmpty-no s h = rw (highest-no s h)
+
+pub isEmpty-member : (s : List ℕ) (v : ℕ) → v < 256 → has s v ≡ true → isEmpty s ≡ false
+unfolding isEmpty
+isEmpty-member s v l p = go (highest s) refl
+  where
+    go : (o : Option ℕ) → highest s ≡ o → isNone o ≡ false
+    go none q = let f = highest-none s q v l in clash (cc)
+    go (some w) q = refl
+
+-- ---- the number of members
+-- members counted in two sets are counted in a third
+below-sum : (s t u : List ℕ) (n : ℕ) → ((v : ℕ) → v < n → one (has s v) + one (has t v) ≡ one (has u v)) → countBelow s n + countBelow t n ≡ countBelow u n
+unfolding countBelow
+below-sum s t u zero h = refl
+below-sum s t u (suc n) h =
+    let e = h n (omega arith) in
+    let r = below-sum s t u n (λ v l. h v (omega arith)) in
+    omega arith
+
+pub count-sum : (s t u : List ℕ) → ((v : ℕ) → v < 256 → one (has s v) + one (has t v) ≡ one (has u v)) → count s + count t ≡ count u
+unfolding count
+count-sum s t u h = below-sum s t u 256 h
+
+below-le : (s : List ℕ) (n : ℕ) → countBelow s n ≤ n
+unfolding countBelow
+below-le s zero = omega arith
+below-le s (suc n) = let a = below-le s n in let b = one-le (has s n) in omega arith
+
+pub count-le : (s : List ℕ) → count s ≤ 256
+unfolding count
+count-le s = below-le s 256
+
+below-none-count : (s : List ℕ) (n : ℕ) → ((v : ℕ) → v < n → has s v ≡ false) → countBelow s n ≡ 0
+unfolding countBelow
+below-none-count s zero h = refl
+below-none-count s (suc n) h =
+    let e : has s n ≡ false = h n (omega arith) in
+    rw (e, below-none-count s n (λ v l. h v (omega arith)))
+
+pub count-no : (s : List ℕ) → ((v : ℕ) → v < 256 → has s v ≡ false) → count s ≡ 0
+unfolding count
+count-no s h = below-none-count s 256 h
+
+pub count-empty : count empty ≡ 0
+count-empty = count-no empty has-empty
+
+pub count-ext : (s t : List ℕ) → ((v : ℕ) → v < 256 → has s v ≡ has t v) → count s ≡ count t
+count-ext s t h =
+    let e : count s + count empty ≡ count t = count-sum s empty t (λ v l. let a = h v l in let b = has-empty v l in rw (a, b) (omega arith)) in
+    omega (arith, count-empty)
+
+-- a single member counts once
+below-single : (s : List ℕ) (x n : ℕ) → x < n → has s x ≡ true → ((v : ℕ) → v < n → (v ≡ x → ⊥) → has s v ≡ false) → countBelow s n ≡ 1
+unfolding countBelow
+below-single s x zero l p h = absurd (not-suc-le-zero l)
+below-single s x (suc n) l p h = go (eqb x n) refl (λ m. below-single s x n m p (λ v k. h v (omega arith)))
+  where
+    go : (b : Bool) → eqb x n ≡ b → (x < n → countBelow s n ≡ 1) → one (has s n) + countBelow s n ≡ 1
+    go true e ih =
+        let d : x ≡ n = eqb-true x n e in
+        let t : has s n ≡ true = rw (← d) p in
+        let z : countBelow s n ≡ 0 = below-none-count s n (λ v k. h v (omega arith) (λ (q : v ≡ x). omega arith)) in
+        rw (t, z)
+    go false e ih =
+        let d : x ≡ n → ⊥ = eqb-false x n e in
+        let t : has s n ≡ false = h n (omega arith) (λ (q : n ≡ x). omega arith) in
+        rw (t, ih (omega arith))
+
+pub count-single : (s : List ℕ) (x : ℕ) → x < 256 → has s x ≡ true → ((v : ℕ) → v < 256 → (v ≡ x → ⊥) → has s v ≡ false) → count s ≡ 1
+unfolding count
+count-single s x l p h = below-single s x 256 l p h
+
+-- a new member counts once more
+pub count-insert : (x : ℕ) (s : List ℕ) → x < 256 → has s x ≡ false → count (insert x s) ≡ count s + 1
+count-insert x s l p = sym (count-sum s (insert x empty) (insert x s) sum) ∙ ap (λ (n : ℕ). count s + n) single
+  where
+    member : (v : ℕ) → v < 256 → has (insert x empty) v ≡ eqb v x
+    member v k = has-insert x empty v k ∙ rw (has-empty v k) (or-false (eqb v x))
+
+    single : count (insert x empty) ≡ 1
+    single =
+        count-single (insert x empty) x l (member x l ∙ eq-eqb x x refl)
+        (λ v k d. member v k ∙ ne-eqb v x d)
+
+    sum : (v : ℕ) → v < 256 → one (has s v) + one (has (insert x empty) v) ≡ one (has (insert x s) v)
+    sum v k = rw (member v k, has-insert x s v k) (go (eqb v x) refl)
+      where
+        go : (b : Bool) → eqb v x ≡ b → one (has s v) + one b ≡ one (b || has s v)
+        go true e = let d : v ≡ x = eqb-true v x e in rw (d, p)
+        go false e = omega arith
+
+-- a member taken out counts once less
+pub count-remove : (x : ℕ) (s : List ℕ) → x < 256 → has s x ≡ true → count (remove x s) + 1 ≡ count s
+count-remove x s l p = sym (count-insert x (remove x s) l out) ∙ count-ext (insert x (remove x s)) s same
+  where
+    out : has (remove x s) x ≡ false
+    out = has-remove x s x l ∙ rw (eq-eqb x x refl)
+
+    same : (v : ℕ) → v < 256 → has (insert x (remove x s)) v ≡ has s v
+    same v k = rw (has-insert x (remove x s) v k, has-remove x s v k) (go (eqb v x) refl)
+      where
+        go : (b : Bool) → eqb v x ≡ b → (b || (not b && has s v)) ≡ has s v
+        go true e = let d : v ≡ x = eqb-true v x e in rw (d, p)
+        go false e = refl
+
+-- the members of two sets that share none
+pub count-union : (s t : List ℕ) → ((v : ℕ) → v < 256 → has s v ≡ true → has t v ≡ false) → count (union s t) ≡ count s + count t
+count-union s t h = sym (count-sum s t (union s t) (λ v l. rw (has-union s t v l) (go (has s v) (has t v) (h v l))))
+  where
+    go : (a b : Bool) → (a ≡ true → b ≡ false) → one a + one b ≡ one (a || b)
+    go true true d = let e = d refl in clash (cc)
+    go true false d = refl
+    go false true d = refl
+    go false false d = refl

@@ -1,3 +1,5 @@
 pub mod Bits
+pub mod BitLaws
 pub mod Sets
 pub mod Laws
+pub mod WordLaws

@@ -247,7 +247,7 @@ pub count-sum : (s t u : List ℕ) → ((v : ℕ) → v < 256 → one (has s v) 
 unfolding count
 count-sum s t u h = below-sum s t u 256 h
 
-below-le : (s : List ℕ) (n : ℕ) → countBelow s n ≤ n
+pub below-le : (s : List ℕ) (n : ℕ) → countBelow s n ≤ n
 unfolding countBelow
 below-le s zero = omega arith
 below-le s (suc n) = let a = below-le s n in let b = one-le (has s n) in omega arith

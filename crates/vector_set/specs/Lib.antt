@@ -3,3 +3,4 @@ pub mod BitLaws
 pub mod Sets
 pub mod Laws
 pub mod WordLaws
+pub mod Cases

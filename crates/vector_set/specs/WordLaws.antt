@@ -7,10 +7,11 @@ use mathlib.Core.Option.{Option, none, some}
 use Prim.Native.Nat.{ℕ, zero, suc, _+_, _-_, _*_, _/_, _%_, _^_, _<_, _≤_}
 use native.Mathlib.Omega.{arith}
 use native.Mathlib.Nat.{mod-one, mod-lt, mod-eq-of-lt}
-use lib.Dec.{eqb, ltb}
+use lib.Dec.{eqb, leb, ltb}
+use lib.Bits.{bitAnd, bitOr, and-lt, or-lt}
 use lib.ListN.{length, getD, set, length-set}
 use lib.Seq.{ext-getD, getD-set-same, getD-set-other}
-use lib.Pow.{pow-pos, shl-exact, mod-pow-add}
+use lib.Pow.{pow-pos, pow-lt, shl-exact, mod-pow-add, ones-sub-lt}
 use lib.Count.{ones, ones-cat, leadingZeros, leading-top}
 use mir.Syntax.{w32}
 use mir.Val.{Val}
@@ -18,10 +19,10 @@ use denote.Laws.{Is}
 use denote.Plain.{UInt}
 use denote.Array.{Array}
 use borrow.Author.Needs.{elem-fits}
-use borrow.Author.Tests.{ltb-true, ltb-false, eqb-true, eqb-false, eq-eqb, ne-eqb}
+use borrow.Author.Tests.{ltb-true, ltb-false, eqb-true, eqb-false, eq-eqb, ne-eqb, le-leb, lt-leb}
 use Rattle.vector_set.specs.Bits.{one, bitAt, bits}
-use Rattle.vector_set.specs.BitLaws.{bits-unique, bit-number, bit-above, bit-top, bit-zero}
-use Rattle.vector_set.specs.Sets.{has, words, collect, highest, countBelow, count}
+use Rattle.vector_set.specs.BitLaws.{bits-unique, bit-number, bit-above, bit-top, bit-zero, bit-and, bit-or, bit-not, bit-pow}
+use Rattle.vector_set.specs.Sets.{has, words, collect, insert, remove, union, difference, intersection, from, highest, countBelow}
 use Rattle.vector_set.specs.Laws.{Words, has-word, words-at, collect-words, highest-is}
 
 -- ---- arrays of the code
@@ -78,6 +79,7 @@ word-changed o keep s v x ws lv lx h =
   where
     f : ℕ → Bool
     f w = o (eqb w v) (has s w)
+
     go : (i : ℕ) → i < 8 → (t : Bool) → eqb i (v / 32) ≡ t → getD (set s (v / 32) x) i 0 ≡ bits f (32 * i) 32
     go i l true e =
         let d : i ≡ v / 32 = eqb-true i (v / 32) e in
@@ -92,6 +94,84 @@ word-changed o keep s v x ws lv lx h =
 -- `1 << b` of a word
 pub one-shl : (b : ℕ) → b < 32 → (1 * 2 ^ b) % 2 ^ 32 ≡ 2 ^ b
 one-shl b l = shl-exact {a = 1} 1 b 32 (omega arith) (omega arith) ∙ omega arith
+
+or-swap : (p q : Bool) → (p || q) ≡ (q || p)
+or-swap true true = refl
+or-swap true false = refl
+or-swap false true = refl
+or-swap false false = refl
+
+and-swap : (p q : Bool) → (p && q) ≡ (q && p)
+and-swap true true = refl
+and-swap true false = refl
+and-swap false true = refl
+and-swap false false = refl
+
+-- ---- what the functions compute
+pub insert-word : (s : List ℕ) (v : ℕ) → Words s → v < 256 → set s (v / 32) (bitOr (getD s (v / 32) 0) ((1 * 2 ^ (v % 32)) % 2 ^ 32)) ≡ insert v s
+unfolding insert
+insert-word s v ws l =
+    let m : v % 32 < 32 = omega arith in
+    let x = getD s (v / 32) 0 in
+    rw (one-shl (v % 32) m)
+    (word-changed (λ p q. p || q) (λ q. refl) s v (bitOr x (2 ^ (v % 32))) ws l
+    (or-lt 32 x (2 ^ (v % 32)) (ws .small (v / 32) (omega arith)) (pow-lt m))
+    (λ b r. bit-or x (2 ^ (v % 32)) b ∙ ap (λ (t : Bool). bitAt x b || t) (bit-pow (v % 32) b) ∙ or-swap (bitAt x b) (eqb b (v % 32))))
+
+pub remove-word : (s : List ℕ) (v : ℕ) → Words s → v < 256 → set s (v / 32) (bitAnd (getD s (v / 32) 0) ((2 ^ 32 - 1) - (1 * 2 ^ (v % 32)) % 2 ^ 32)) ≡ remove v s
+unfolding remove
+remove-word s v ws l =
+    let m : v % 32 < 32 = omega arith in
+    let x = getD s (v / 32) 0 in
+    let n = 2 ^ 32 - 1 - 2 ^ (v % 32) in
+    rw (one-shl (v % 32) m)
+    (word-changed (λ p q. not p && q) (λ q. refl) s v (bitAnd x n) ws l
+    (and-lt 32 x n (ws .small (v / 32) (omega arith)) (ones-sub-lt 32 (2 ^ (v % 32))))
+    (λ b r. bit-and x n b
+    ∙ ap (λ (t : Bool). bitAt x b && t) (bit-not 32 (2 ^ (v % 32)) b (pow-lt m) r ∙ ap not (bit-pow (v % 32) b))
+    ∙ and-swap (bitAt x b) (not (eqb b (v % 32)))))
+
+pub union-words : (s t : List ℕ) → Words s → Words t → upto (λ k. bitOr (getD s k 0) (getD t k 0)) 0 8 ≡ union s t
+unfolding union
+union-words = wordwise₂ bitOr (λ p q. p || q) (λ x y hx hy. or-lt 32 x y hx hy) (λ x y b hx hy r. bit-or x y b)
+
+pub intersection-words : (s t : List ℕ) → Words s → Words t → upto (λ k. bitAnd (getD s k 0) (getD t k 0)) 0 8 ≡ intersection s t
+unfolding intersection
+intersection-words = wordwise₂ bitAnd (λ p q. p && q) (λ x y hx hy. and-lt 32 x y hx hy) (λ x y b hx hy r. bit-and x y b)
+
+pub difference-words : (s t : List ℕ) → Words s → Words t → upto (λ k. bitAnd (getD s k 0) ((2 ^ 32 - 1) - getD t k 0)) 0 8 ≡ difference s t
+unfolding difference
+difference-words =
+    wordwise₂ (λ x y. bitAnd x ((2 ^ 32 - 1) - y)) (λ p q. p && not q)
+    (λ x y hx hy. and-lt 32 x ((2 ^ 32 - 1) - y) hx (ones-sub-lt 32 y))
+    (λ x y b hx hy r. bit-and x ((2 ^ 32 - 1) - y) b ∙ ap (λ (t : Bool). bitAt x b && t) (bit-not 32 y b hy r))
+
+-- bit 31 of the lowest word and all of the others
+abbrev pub from31 : List ℕ → ℕ → ℕ
+from31 s zero = bitAnd (getD s 0 0) 0x8000_0000
+from31 s (suc k) = getD s (suc k) 0
+
+pub from-31-words : (s : List ℕ) → Words s → upto (from31 s) 0 8 ≡ from 31 s
+unfolding from
+from-31-words s ws = wordwise (from31 s) (λ v. leb 31 v && has s v) small bit
+  where
+    small : (k : ℕ) → k < 8 → from31 s k < 2 ^ 32
+    small zero l = and-lt 32 (getD s 0 0) 0x8000_0000 (ws .small 0 l) (omega arith)
+    small (suc k) l = ws .small (suc k) l
+
+    last : (b : ℕ) → b < 32 → eqb b 31 ≡ leb 31 (32 * 0 + b)
+    last b r = go (eqb b 31) refl
+      where
+        go : (t : Bool) → eqb b 31 ≡ t → t ≡ leb 31 (32 * 0 + b)
+        go true e = let d : b ≡ 31 = eqb-true b 31 e in sym (le-leb 31 (32 * 0 + b) (omega arith))
+        go false e = let d : b ≡ 31 → ⊥ = eqb-false b 31 e in sym (lt-leb 31 (32 * 0 + b) (omega arith))
+
+    bit : (k b : ℕ) → k < 8 → b < 32 → bitAt (from31 s k) b ≡ (leb 31 (32 * k + b) && has s (32 * k + b))
+    bit zero b l r =
+        bit-and (getD s 0 0) (2 ^ 31) b
+        ∙ ap₂ (λ (p q : Bool). p && q) (sym (has-word s 0 b r)) (bit-pow 31 b ∙ last b r)
+        ∙ and-swap (has s (32 * 0 + b)) (leb 31 (32 * 0 + b))
+    bit (suc k) b l r = sym (has-word s (suc k) b r) ∙ sym (rw (le-leb 31 (32 * suc k + b) (omega arith)))
 
 -- ---- the highest member by words
 -- the highest bit of a word that is not 0 has the highest member of the set, where the words above are 0
@@ -143,12 +223,11 @@ count-part s k (suc n) l =
     let o : one (has s (32 * k + n)) ≡ x / 2 ^ n % 2 = ap one (has-word s k n (omega arith)) ∙ bit-number x n in
     let d : x % 2 ^ suc n ≡ x / 2 ^ n % 2 * 2 ^ n + x % 2 ^ n = ap (λ (j : ℕ). x % 2 ^ j) (omega arith) ∙ mod-pow-add x 1 n in
     let c : ones (x % 2 ^ suc n) ≡ x / 2 ^ n % 2 + ones (x % 2 ^ n) =
-        ap ones d ∙ ones-cat n (x / 2 ^ n % 2) (x % 2 ^ n) (mod-lt x (pow-pos n)) ∙ ap (λ (y : ℕ). y + ones (x % 2 ^ n)) (ones-digit (x / 2 ^ n % 2) (omega arith)) in
+    ap ones d ∙ ones-cat n (x / 2 ^ n % 2) (x % 2 ^ n) (mod-lt x (pow-pos n)) ∙ ap (λ (y : ℕ). y + ones (x % 2 ^ n)) (ones-digit (x / 2 ^ n % 2) (omega arith)) in
     let r = count-part s k n (omega arith) in
     ap (countBelow s) e ∙ omega arith
 
 pub count-word : (s : List ℕ) (k : ℕ) → Words s → k < 8 → countBelow s (32 * suc k) ≡ countBelow s (32 * k) + ones (getD s k 0)
 count-word s k ws l =
     let e : 32 * suc k ≡ 32 * k + 32 = omega arith in
-    let x = getD s k 0 in
     ap (countBelow s) e ∙ count-part s k 32 (omega arith) ∙ ap (λ (y : ℕ). countBelow s (32 * k) + ones y) (mod-eq-of-lt (ws .small k l))

@@ -1,0 +1,30 @@
+-- `vector_set::difference` meets its contract: each word is the and of one and the complement of the other. Assumes nothing.
+use Rattle.vector_set.specs.WordLaws.{array-words, difference-words}
+use lib.Dec.{lit<}
+use Rattle.vector_set.proofs.difference.Statement.{statement}
+use Rattle.vector_set.proofs.difference.Tie as tie
+
+returns : tie.Need-returns
+returns c = difference-words (c .args .t1) (c .args .t2) (array-words (c .args .t1) _ (c .good .0)) (array-words (c .args .t2) _ (c .good .1 .0))
+
+pub difference-spec : {M : Type 1} → statement M
+difference-spec =
+    tie.close
+    (tie.spec
+    (λ c. lit< tt)
+    (λ c. lit< tt)
+    (λ c. lit< tt)
+    (λ c. lit< tt)
+    (λ c. lit< tt)
+    (λ c. lit< tt)
+    (λ c. lit< tt)
+    (λ c. lit< tt)
+    (λ c. lit< tt)
+    (λ c. lit< tt)
+    (λ c. lit< tt)
+    (λ c. lit< tt)
+    (λ c. lit< tt)
+    (λ c. lit< tt)
+    (λ c. lit< tt)
+    (λ c. lit< tt)
+    returns)

@@ -1,0 +1,30 @@
+-- `vector_set::intersection` meets its contract: each word is the and of two. Assumes nothing.
+use Rattle.vector_set.specs.WordLaws.{array-words, intersection-words}
+use lib.Dec.{lit<}
+use Rattle.vector_set.proofs.intersection.Statement.{statement}
+use Rattle.vector_set.proofs.intersection.Tie as tie
+
+returns : tie.Need-returns
+returns c = intersection-words (c .args .t1) (c .args .t2) (array-words (c .args .t1) _ (c .good .0)) (array-words (c .args .t2) _ (c .good .1 .0))
+
+pub intersection-spec : {M : Type 1} → statement M
+intersection-spec =
+    tie.close
+    (tie.spec
+    (λ c. lit< tt)
+    (λ c. lit< tt)
+    (λ c. lit< tt)
+    (λ c. lit< tt)
+    (λ c. lit< tt)
+    (λ c. lit< tt)
+    (λ c. lit< tt)
+    (λ c. lit< tt)
+    (λ c. lit< tt)
+    (λ c. lit< tt)
+    (λ c. lit< tt)
+    (λ c. lit< tt)
+    (λ c. lit< tt)
+    (λ c. lit< tt)
+    (λ c. lit< tt)
+    (λ c. lit< tt)
+    returns)

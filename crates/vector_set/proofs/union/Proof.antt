@@ -1,0 +1,30 @@
+-- `vector_set::union` meets its contract: each word is the or of two. Assumes nothing.
+use Rattle.vector_set.specs.WordLaws.{array-words, union-words}
+use lib.Dec.{lit<}
+use Rattle.vector_set.proofs.union.Statement.{statement}
+use Rattle.vector_set.proofs.union.Tie as tie
+
+returns : tie.Need-returns
+returns c = union-words (c .args .t1) (c .args .t2) (array-words (c .args .t1) _ (c .good .0)) (array-words (c .args .t2) _ (c .good .1 .0))
+
+pub union-spec : {M : Type 1} → statement M
+union-spec =
+    tie.close
+    (tie.spec
+    (λ c. lit< tt)
+    (λ c. lit< tt)
+    (λ c. lit< tt)
+    (λ c. lit< tt)
+    (λ c. lit< tt)
+    (λ c. lit< tt)
+    (λ c. lit< tt)
+    (λ c. lit< tt)
+    (λ c. lit< tt)
+    (λ c. lit< tt)
+    (λ c. lit< tt)
+    (λ c. lit< tt)
+    (λ c. lit< tt)
+    (λ c. lit< tt)
+    (λ c. lit< tt)
+    (λ c. lit< tt)
+    returns)

@@ -48,8 +48,9 @@ fn clear_request(d: &mut [u8])
     requires { ⌜ length (now d) ≡ 32 ⌝ }
     ensures { λ _. ⌜ now (d .exit) ≡ clearing (λ k. leb k 10 || eqb k manyBit) (now (d .entry)) ⌝ }
 {
+    let flags = d[1];
     d[0] = 0;
-    d[1] = d[1] & 0xB8;
+    d[1] = flags & 0xB8;
 }
 
 // Clears the marks of the vectors 31 to 255.

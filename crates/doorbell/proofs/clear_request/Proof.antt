@@ -21,31 +21,31 @@ abbrev request : ℕ → Bool
 request k = leb k 10 || eqb k 14
 
 abbrev stored : List ℕ → List ℕ
-stored d = set (set d 0 0) 1 (bitAnd (getD (set d 0 0) 1 0) 184)
+stored d = set (set d 0 0) 1 (bitAnd (getD d 1 0) 184)
 
 byte : (d : List ℕ) (j : ℕ) → 1 < length d → getD d j 0 < 256 → Cleared request j (getD d j 0) (getD (stored d) j 0)
 byte d j l s =
     ⊎-elim
     (λ (h : j < 1). let e : j ≡ 0 = omega arith in
-    rw (e, getD-set-other (set d 0 0) 1 0 (bitAnd (getD (set d 0 0) 1 0) 184) 0 (λ (q : 0 ≡ 1). omega arith), getD-set-same d 0 0 0 (omega arith))
+    rw (e, getD-set-other (set d 0 0) 1 0 (bitAnd (getD d 1 0) 184) 0 (λ (q : 0 ≡ 1). omega arith), getD-set-same d 0 0 0 (omega arith))
     (zeroes request 0 (getD d 0 0) (each8 (λ b. request (8 * 0 + b) ≡ true) refl refl refl refl refl refl refl refl)))
     (⊎-elim
     (λ (e : j ≡ 1). rw
-    (e, getD-set-same (set d 0 0) 1 (bitAnd (getD (set d 0 0) 1 0) 184) 0 (simp length-set l), getD-set-other d 0 1 0 0 (λ (q : 1 ≡ 0). omega arith))
+    (e, getD-set-same (set d 0 0) 1 (bitAnd (getD d 1 0) 184) 0 (simp length-set l))
     (masks request 1 (getD d 1 0) 184 (omega arith)
     (each8 (λ b. bitAt 184 b ≡ not (request (8 * 1 + b))) refl refl refl refl refl refl refl refl)))
     (λ (h : 1 < j). rw
-    (getD-set-other (set d 0 0) 1 j (bitAnd (getD (set d 0 0) 1 0) 184) 0 (λ (q : j ≡ 1). omega arith), getD-set-other d 0 j 0 0 (λ (q : j ≡ 0). omega arith))
+    (getD-set-other (set d 0 0) 1 j (bitAnd (getD d 1 0) 184) 0 (λ (q : j ≡ 1). omega arith), getD-set-other d 0 j 0 0 (λ (q : j ≡ 0). omega arith))
     (keeps request j (getD d j 0) s
     (λ b r. rw (lt-leb (8 * j + b) 10 (omega arith), ne-eqb (8 * j + b) 14 (λ (q : 8 * j + b ≡ 14). omega arith)))))
     )
     (place j 1)
 
+slice-read-flags : tie.Need-slice-read-flags
+slice-read-flags c = search needs
+
 slice-write-d : tie.Need-slice-write-d
 slice-write-d c = search needs
-
-slice-read-d : tie.Need-slice-read-d
-slice-read-d c = search needs
 
 slice-write-d-2 : tie.Need-slice-write-d-2
 slice-write-d-2 c = search needs
@@ -60,4 +60,4 @@ returns c =
 
 pub clear-request-spec : {M : Type 1} → statement M
 clear-request-spec =
-    tie.close (tie.spec slice-write-d slice-read-d slice-write-d-2 same-length returns)
+    tie.close (tie.spec slice-read-flags slice-write-d slice-write-d-2 same-length returns)

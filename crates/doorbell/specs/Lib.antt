@@ -1,3 +1,4 @@
+pub mod Admits
 pub mod Bytes
 pub mod Clear
 pub mod Served

@@ -1,9 +1,9 @@
--- `doorbell::byte_at` meets its contract. Assumes nothing.
+-- `doorbell::descriptor::byte_at` meets its contract. Assumes nothing.
 use mathlib.Core.Path.{refl}
 use borrow.Author.Needs.{needs}
 use native.Mathlib.Omega.{arith}
-use Rattle.doorbell.proofs.byte_at.Statement.{statement}
-use Rattle.doorbell.proofs.byte_at.Tie as tie
+use Rattle.doorbell.proofs.descriptor.byte_at.Statement.{statement}
+use Rattle.doorbell.proofs.descriptor.byte_at.Tie as tie
 
 shared-slice-read-result : tie.Need-shared-slice-read-result
 shared-slice-read-result c = search needs

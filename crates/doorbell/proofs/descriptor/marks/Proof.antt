@@ -1,8 +1,8 @@
--- `doorbell::marks` meets its contract, word by word. Assumes nothing.
+-- `doorbell::descriptor::marks` meets its contract, word by word. Assumes nothing.
 use Rattle.vector_set.specs.Sets.{collect, words}
 use borrow.Author.Needs.{needs}
-use Rattle.doorbell.proofs.marks.Statement.{statement}
-use Rattle.doorbell.proofs.marks.Tie as tie
+use Rattle.doorbell.proofs.descriptor.marks.Statement.{statement}
+use Rattle.doorbell.proofs.descriptor.marks.Tie as tie
 
 word-of-requires : tie.Need-word-of-requires
 word-of-requires c κs = search needs

@@ -1,4 +1,4 @@
--- `doorbell::clear_descriptor` meets its contract: bit 14 is read before it is cleared. Assumes nothing.
+-- `doorbell::clear::clear_descriptor` meets its contract: bit 14 is read before it is cleared. Assumes nothing.
 use mathlib.Core.Path.{_≡_, sym, ap, _∙_}
 use mathlib.Core.Bool.{Bool, true, false, _||_, or-false}
 use mathlib.Core.List.{List}
@@ -9,8 +9,8 @@ use Rattle.model.specs.Doorbell.{bitOf, clearsBit}
 use Rattle.doorbell.specs.Bytes.{mask-clear, mask-set}
 use Rattle.doorbell.specs.Clear.{clearing, clearing-twice, clearing-ext}
 use borrow.Author.Needs.{needs}
-use Rattle.doorbell.proofs.clear_descriptor.Statement.{statement}
-use Rattle.doorbell.proofs.clear_descriptor.Tie as tie
+use Rattle.doorbell.proofs.clear.clear_descriptor.Statement.{statement}
+use Rattle.doorbell.proofs.clear.clear_descriptor.Tie as tie
 
 abbrev request : ℕ → Bool
 request k = leb k 10 || eqb k 14

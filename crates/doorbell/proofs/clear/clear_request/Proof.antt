@@ -1,4 +1,4 @@
--- `doorbell::clear_request` meets its contract, byte by byte. Assumes nothing.
+-- `doorbell::clear::clear_request` meets its contract, byte by byte. Assumes nothing.
 use mathlib.Core.Path.{_≡_, refl, _∙_}
 use mathlib.Core.Bool.{Bool, true, false, not, _||_}
 use mathlib.Core.List.{List}
@@ -14,8 +14,8 @@ use Rattle.vector_set.specs.Bits.{bitAt}
 use Rattle.doorbell.specs.Bytes.{place}
 use Rattle.doorbell.specs.Clear.{Cleared, is-clearing, keeps, zeroes, masks, each8}
 use borrow.Author.Needs.{needs}
-use Rattle.doorbell.proofs.clear_request.Statement.{statement}
-use Rattle.doorbell.proofs.clear_request.Tie as tie
+use Rattle.doorbell.proofs.clear.clear_request.Statement.{statement}
+use Rattle.doorbell.proofs.clear.clear_request.Tie as tie
 
 abbrev request : ℕ → Bool
 request k = leb k 10 || eqb k 14

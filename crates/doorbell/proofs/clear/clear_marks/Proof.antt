@@ -1,4 +1,4 @@
--- `doorbell::clear_marks` meets its contract. The loop's invariant: the bytes below j are as they shall be. The measure is what is left of 32.
+-- `doorbell::clear::clear_marks` meets its contract. The loop's invariant: the bytes below j are as they shall be. The measure is what is left of 32.
 -- Assumes nothing.
 use mathlib.Core.Path.{_≡_, refl, sym, subst, ap, _∙_}
 use mathlib.Core.Bool.{Bool, true, false, cond, not}
@@ -14,8 +14,8 @@ use borrow.Author.Tests.{lt-ltb, le-ltb, le-leb, lt-leb}
 use Rattle.vector_set.specs.Bits.{bitAt}
 use Rattle.doorbell.specs.Bytes.{place, filled}
 use Rattle.doorbell.specs.Clear.{Cleared, is-clearing, keeps, zeroes, masks, each8}
-use Rattle.doorbell.proofs.clear_marks.Statement.{statement}
-use Rattle.doorbell.proofs.clear_marks.Tie as tie
+use Rattle.doorbell.proofs.clear.clear_marks.Statement.{statement}
+use Rattle.doorbell.proofs.clear.clear_marks.Tie as tie
 
 -- byte i of what is made of d: the first four bytes of d, and zeroes
 abbrev front : List ℕ → ℕ → ℕ

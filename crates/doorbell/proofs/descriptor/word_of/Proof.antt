@@ -1,10 +1,10 @@
--- `doorbell::word_of` meets its contract: a word is four bytes. Assumes nothing.
+-- `doorbell::descriptor::word_of` meets its contract: a word is four bytes. Assumes nothing.
 use mathlib.Core.Path.{_≡_}
 use native.Mathlib.Omega.{arith}
 use Rattle.doorbell.specs.Bytes.{word-bytes}
 use borrow.Author.Needs.{needs}
-use Rattle.doorbell.proofs.word_of.Statement.{statement}
-use Rattle.doorbell.proofs.word_of.Tie as tie
+use Rattle.doorbell.proofs.descriptor.word_of.Statement.{statement}
+use Rattle.doorbell.proofs.descriptor.word_of.Tie as tie
 
 byte-at-requires : tie.Need-byte-at-requires
 byte-at-requires c κs = search needs

@@ -20,12 +20,16 @@ use Rattle.vector_set.specs.BitLaws.{bits-bit, bits-lt, bits-unique, bit-number
 use Rattle.model.specs.Doorbell.{bitOf, bytesFrom, mapBits}
 
 -- where an index stands beside another
-pub place : (j n : ℕ) → (j < n) ⊎ ((j ≡ n) ⊎ (n < j))
-place j n = go (ltb j n) refl
+pub split : (j n : ℕ) → (j < n) ⊎ (n ≤ j)
+split j n = go (ltb j n) refl
   where
-    go : (b : Bool) → ltb j n ≡ b → (j < n) ⊎ ((j ≡ n) ⊎ (n < j))
+    go : (b : Bool) → ltb j n ≡ b → (j < n) ⊎ (n ≤ j)
     go true e = inl (ltb-true j n e)
-    go false e = inr (⊎-elim (λ (q : n ≡ j). inl (sym q)) (λ (q : n < j). inr q) (eq-or-lt-of-le (ltb-false j n e)))
+    go false e = inr (ltb-false j n e)
+
+pub place : (j n : ℕ) → (j < n) ⊎ ((j ≡ n) ⊎ (n < j))
+place j n =
+    ⊎-elim inl (λ h. inr (⊎-elim (λ (q : n ≡ j). inl (sym q)) (λ (q : n < j). inr q) (eq-or-lt-of-le h))) (split j n)
 
 -- ---- a bit of bytes is a bit of a byte
 pub bitOf-byte : (p : List ℕ) (j b : ℕ) → b < 8 → bitOf p (8 * j + b) ≡ bitAt (getD p j 0) b

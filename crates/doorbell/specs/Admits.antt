@@ -31,8 +31,10 @@ module _ (a d : List ℕ) where
       swap false true true = refl
       swap false true false = refl
       swap false false z = refl
+
       drop : (s t w : Bool) → (s && (t && false)) ≡ (w && false)
       drop s t w = ap (λ (u : Bool). s && u) (and-false t) ∙ and-false s ∙ sym (and-false w)
+
       go : (b : Bool) → eqb v (getD d 0 0) ≡ b → (isVector v && has a v && (not x && b)) ≡ (not x && y && z && b)
       go true e =
           let f : v ≡ getD d 0 0 = eqb-true v (getD d 0 0) e in
@@ -48,6 +50,7 @@ module _ (a d : List ℕ) where
       tail : (b : Bool) → b ≡ (b || false)
       tail true = refl
       tail false = refl
+
       go : (b : Bool) → collect (λ v. b && eqb v (getD d 0 0)) ≡ cond b (insert (getD d 0 0) empty) empty
       go true =
           collect-ext (λ v. eqb v (getD d 0 0)) (λ v. eqb v (getD d 0 0) || has empty v)
@@ -59,9 +62,14 @@ module _ (a d : List ℕ) where
       → admitsEdge a d v ≡ (not (isLevel l v) && has (from 31 (intersection (collect (bitOf d)) a)) v)
   unfolding admitsEdge
   many-at l e m v h =
-      rw
-      (m, ← e, le-leb v 255 (omega arith), has-from 31 (intersection (collect (bitOf d)) a) v h, has-intersection (collect (bitOf d)) a v h,
-      has-collect (bitOf d) v h)
+      rw (
+        m,
+        ← e,
+        le-leb v 255 (omega arith),
+        has-from 31 (intersection (collect (bitOf d)) a) v h,
+        has-intersection (collect (bitOf d)) a v h,
+        has-collect (bitOf d) v h,
+      )
       (swap (leb 31 v) (has a v) (bitOf d v) (isLevel l v))
     where
       swap : (p q r s : Bool) → (p && true && q && (r && not s)) ≡ (not s && (p && (r && q)))

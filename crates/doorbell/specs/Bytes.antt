@@ -95,7 +95,7 @@ made f n =
       long = bytesFrom-length f 0 n;
       small = λ j h. rw (bytesFrom-at f 0 n j h) (bits-lt f (8 * (0 + j)) 8);
       bit = λ j h b l. let e : 8 * (0 + j) + b ≡ 8 * j + b = omega arith in
-          ap (λ (x : ℕ). bitAt x b) (bytesFrom-at f 0 n j h) ∙ bits-bit f (8 * (0 + j)) 8 b l ∙ ap f e
+          ap (λ (x : ℕ). bitAt x b) (bytesFrom-at f 0 n j h) ∙ bits-bit f (8 * (0 + j)) 8 b l ∙ ap f e;
     }
 
 pub is-made : (f : ℕ → Bool) (n : ℕ) (q : List ℕ) → Made f n q → q ≡ bytesFrom f 0 n
@@ -122,7 +122,7 @@ mapped f p =
     record {
       long = m .long;
       small = m .small;
-      bit = λ j h b l. m .bit j h b l ∙ ap (f (8 * j + b)) (bitOf-byte p j b l)
+      bit = λ j h b l. m .bit j h b l ∙ ap (f (8 * j + b)) (bitOf-byte p j b l);
     }
 
 pub is-mapped : (f : ℕ → Bool → Bool) (p q : List ℕ) → Mapped f p q → q ≡ mapBits f p
@@ -132,7 +132,7 @@ is-mapped f p q m =
     (record {
       long = m .long;
       small = m .small;
-      bit = λ j h b l. m .bit j h b l ∙ ap (f (8 * j + b)) (sym (bitOf-byte p j b l))
+      bit = λ j h b l. m .bit j h b l ∙ ap (f (8 * j + b)) (sym (bitOf-byte p j b l));
     })
 
 -- ---- one bit of a number, by a mask

@@ -42,14 +42,14 @@ pub zeroes : (g : ℕ → Bool) (j x : ℕ) → ((b : ℕ) → b < 8 → g (8 * 
 zeroes g j x n =
     record {
       small = omega arith;
-      bit = λ b l. bit-zero b ∙ sym (and-false (bitAt x b)) ∙ ap (λ (t : Bool). bitAt x b && not t) (sym (n b l))
+      bit = λ b l. bit-zero b ∙ sym (and-false (bitAt x b)) ∙ ap (λ (t : Bool). bitAt x b && not t) (sym (n b l));
     }
 
 pub masks : (g : ℕ → Bool) (j x m : ℕ) → m < 256 → ((b : ℕ) → b < 8 → bitAt m b ≡ not (g (8 * j + b))) → Cleared g j x (bitAnd x m)
 masks g j x m h n =
     record {
       small = omega (arith, and-le-r x m);
-      bit = λ b l. bit-and x m b ∙ ap (λ (t : Bool). bitAt x b && t) (n b l)
+      bit = λ b l. bit-and x m b ∙ ap (λ (t : Bool). bitAt x b && t) (n b l);
     }
 
 -- what holds of 0 to 7 holds below 8
@@ -81,7 +81,7 @@ clearing-twice g h p =
     record {
       small = d .small;
       bit = λ b r. d .bit b r ∙ ap (λ (t : Bool). t && not (h (8 * j + b))) (c .bit b r)
-          ∙ and-not-or (bitAt (getD p j 0) b) (g (8 * j + b)) (h (8 * j + b))
+          ∙ and-not-or (bitAt (getD p j 0) b) (g (8 * j + b)) (h (8 * j + b));
     })
 
 pub clearing-ext : (g h : ℕ → Bool) (p : List ℕ) → ((k : ℕ) → g k ≡ h k) → clearing g p ≡ clearing h p

@@ -51,23 +51,29 @@ module _ (l : ℕ) (many : Bool) (low : 1 ≤ l) (high : l ≤ 3) where
   unfolding clears
   clears-in i b h r =
       let e : 8 * (64 * l + i) + b - 512 * l ≡ 8 * i + b = omega arith in
-      rw
-      (ne-eqb (8 * (64 * l + i) + b) (8 * 2 + (7 + l)) (λ (q : 8 * (64 * l + i) + b ≡ 8 * 2 + (7 + l)). omega arith),
-      le-leb (512 * l) (8 * (64 * l + i) + b) (omega arith), lt-ltb (8 * (64 * l + i) + b) (512 * l + 256) (omega arith), e)
+      rw (
+        ne-eqb (8 * (64 * l + i) + b) (8 * 2 + (7 + l)) (λ (q : 8 * (64 * l + i) + b ≡ 8 * 2 + (7 + l)). omega arith),
+        le-leb (512 * l) (8 * (64 * l + i) + b) (omega arith),
+        lt-ltb (8 * (64 * l + i) + b) (512 * l + 256) (omega arith),
+        e,
+      )
 
   clears-before : (j b : ℕ) → (j ≡ 3 → ⊥) → j < 64 * l → b < 8 → clears l many (8 * j + b) ≡ false
   unfolding clears
   clears-before j b n h r =
-      rw
-      (ne-eqb (8 * j + b) (8 * 2 + (7 + l)) (λ (q : 8 * j + b ≡ 8 * 2 + (7 + l)). n (omega arith)),
-      lt-leb (512 * l) (8 * j + b) (omega arith))
+      rw (
+        ne-eqb (8 * j + b) (8 * 2 + (7 + l)) (λ (q : 8 * j + b ≡ 8 * 2 + (7 + l)). n (omega arith)),
+        lt-leb (512 * l) (8 * j + b) (omega arith),
+      )
 
   clears-after : (j b : ℕ) → 64 * l + 32 ≤ j → b < 8 → clears l many (8 * j + b) ≡ false
   unfolding clears
   clears-after j b h r =
-      rw
-      (ne-eqb (8 * j + b) (8 * 2 + (7 + l)) (λ (q : 8 * j + b ≡ 8 * 2 + (7 + l)). omega arith),
-      le-leb (512 * l) (8 * j + b) (omega arith), le-ltb (8 * j + b) (512 * l + 256) (omega arith))
+      rw (
+        ne-eqb (8 * j + b) (8 * 2 + (7 + l)) (λ (q : 8 * j + b ≡ 8 * 2 + (7 + l)). omega arith),
+        le-leb (512 * l) (8 * j + b) (omega arith),
+        le-ltb (8 * j + b) (512 * l + 256) (omega arith),
+      )
 
   -- ---- the page, byte by byte
   module _ (p : List ℕ) (long : 256 ≤ length p) (small : (j : ℕ) → getD p j 0 < 256) where
@@ -108,7 +114,7 @@ module _ (l : ℕ) (many : Bool) (low : 1 ≤ l) (high : l ≤ 3) where
           small = rw y (c .small);
           bit = λ b r. ap (λ (x : ℕ). bitAt x b) y ∙ c .bit b r
               ∙ ap (λ (x : ℕ). bitAt x b && not (clearsBit many (8 * i + b))) e
-              ∙ ap (λ (t : Bool). bitAt (getD p (64 * l + i) 0) b && not t) (sym (clears-in i b h r))
+              ∙ ap (λ (t : Bool). bitAt (getD p (64 * l + i) 0) b && not t) (sym (clears-in i b h r));
         }
 
     other : (j : ℕ) → (j ≡ 3 → ⊥) → Cleared (clears l many) j (getD p j 0) (getD lent j 0)

@@ -11,8 +11,13 @@ use vector_set::Found;
 
 // Bits 8, 10 and 14 of the descriptor, as bits of its byte 1.
 const NMI: u8 = 0x01;
+
 const LEVEL: u8 = 0x04;
+
 const MANY: u8 = 0x40;
+
+// The lowest vector that a descriptor can name.
+const LOWEST: u8 = 31;
 
 fn byte_at(d: &[u8], i: usize) -> u32
     requires { ⌜ i < length (now d) ⌝ }
@@ -62,15 +67,15 @@ fn level_of(d: &[u8], allowed: [u32; 8]) -> Found
     requires { ⌜ length (now d) ≡ 32 ⌝ }
     ensures { λ r. ⌜ vectorOf r ≡ admitsLevel allowed (now (d .entry)) ⌝ }
 {
-    let v = d[0];
+    let level = d[0];
     if d[1] & LEVEL == 0 {
         return Found::Nothing;
     }
-    if v < 31 {
+    if level < LOWEST {
         return Found::Nothing;
     }
-    if vector_set::contains(allowed, v) {
-        return Found::Vector(v);
+    if vector_set::contains(allowed, level) {
+        return Found::Vector(level);
     }
     Found::Nothing
 }
@@ -92,16 +97,16 @@ fn one_edge(d: &[u8], allowed: [u32; 8]) -> [u32; 8]
     requires { ⌜ (length (now d) ≡ 32) × (bitOf (now d) manyBit ≡ false) ⌝ }
     ensures { λ r. ⌜ r ≡ collect (admitsEdge allowed (now (d .entry))) ⌝ }
 {
-    let v = d[0];
+    let edge = d[0];
     let none = vector_set::no_vectors();
     if d[1] & LEVEL != 0 {
         return none;
     }
-    if v < 31 {
+    if edge < LOWEST {
         return none;
     }
-    if vector_set::contains(allowed, v) {
-        return vector_set::insert(none, v);
+    if vector_set::contains(allowed, edge) {
+        return vector_set::insert(none, edge);
     }
     none
 }

@@ -8,21 +8,15 @@ use borrow.Author.Needs.{needs}
 use Rattle.doorbell.proofs.items_of.Statement.{statement}
 use Rattle.doorbell.proofs.items_of.Tie as tie
 
-one-if-requires : tie.Need-one-if-requires
-one-if-requires c κs = search needs
-
-one-found-requires : tie.Need-one-found-requires
-one-found-requires c κs = search needs
-
 add-result : tie.Need-add-result
-add-result c = omega (arith, one-le (c .before .before .before .args .a .nmi), one-le (isSome (vectorOf (c .before .before .before .args .a .level))))
-
-count-of-requires : tie.Need-count-of-requires
-count-of-requires c κs = search needs
+add-result c =
+    let start = c .before .before .before in
+    omega (arith, one-le (start .args .a .nmi), one-le (isSome (vectorOf (start .args .a .level))))
 
 add-result-2 : tie.Need-add-result-2
 add-result-2 c =
-    omega (arith, one-le (c .before .before .before .before .args .a .nmi), one-le (isSome (vectorOf (c .before .before .before .before .args .a .level))), count-le (c .before .before .before .before .args .a .edge))
+    let start = c .before .before .before .before in
+    omega (arith, one-le (start .args .a .nmi), one-le (isSome (vectorOf (start .args .a .level))), count-le (start .args .a .edge))
 
 returns : tie.Need-returns
 unfolding items
@@ -31,4 +25,4 @@ returns c = omega arith
 pub items-of-spec : {M : Type 1} → statement M
 items-of-spec =
     tie.close
-    (tie.spec one-if-requires one-found-requires add-result count-of-requires add-result-2 returns)
+    (tie.spec (λ c κs. search needs) (λ c κs. search needs) add-result (λ c κs. search needs) add-result-2 returns)

@@ -4,12 +4,9 @@ use borrow.Author.Needs.{needs}
 use Rattle.doorbell.proofs.nothing.Statement.{statement}
 use Rattle.doorbell.proofs.nothing.Tie as tie
 
-no-vectors-requires : tie.Need-no-vectors-requires
-no-vectors-requires c κs = search needs
-
 returns : tie.Need-returns
 unfolding noPart
 returns c = cc
 
 pub nothing-spec : {M : Type 1} → statement M
-nothing-spec = tie.close (tie.spec no-vectors-requires returns)
+nothing-spec = tie.close (tie.spec (λ c κs. search needs) returns)

@@ -26,89 +26,40 @@ unfolding descriptor
 finish l p ys e f low high long small y =
     rw (y, e, f) (page-is l (bitOf (take 32 (drop (64 * l) p)) manyBit) low high p long small)
 
-nothing-requires : tie.Need-nothing-requires
-nothing-requires c κs = search needs
-
 returns : tie.Need-returns
-returns c = unserved (c .before .before .before .args .vmpl) (c .before .before .before .args .allowed) (c .before .before .before .args .page .now) (short (c .before .before .before .args .vmpl) (c .before .before .before .args .page .now) (c .before .if1 .taken)) (c .nothing .ensures)
-
-nothing-requires-2 : tie.Need-nothing-requires-2
-nothing-requires-2 c κs = search needs
+returns c =
+    let start = c .before .before .before in
+    unserved (start .args .vmpl) (start .args .allowed) (start .args .page .now) (short (start .args .vmpl) (start .args .page .now) (c .before .if1 .taken)) (c .nothing .ensures)
 
 returns-2 : tie.Need-returns-2
-returns-2 c = unserved (c .before .before .before .before .args .vmpl) (c .before .before .before .before .args .allowed) (c .before .before .before .before .args .page .now) (too-low (c .before .before .before .before .args .vmpl) (c .before .before .before .before .args .page .now) (c .before .if2 .taken)) (c .nothing2 .ensures)
-
-nothing-requires-3 : tie.Need-nothing-requires-3
-nothing-requires-3 c κs = search needs
+returns-2 c =
+    let start = c .before .before .before .before in
+    unserved (start .args .vmpl) (start .args .allowed) (start .args .page .now) (too-low (start .args .vmpl) (start .args .page .now) (c .before .if2 .taken)) (c .nothing2 .ensures)
 
 returns-3 : tie.Need-returns-3
-returns-3 c = unserved (c .before .before .before .before .before .args .vmpl) (c .before .before .before .before .before .args .allowed) (c .before .before .before .before .before .args .page .now) (too-high (c .before .before .before .before .before .args .vmpl) (c .before .before .before .before .before .args .page .now) (c .before .if3 .taken)) (c .nothing3 .ensures)
-
-slice-read-info : tie.Need-slice-read-info
-slice-read-info c = search needs
-
-cast-mark : tie.Need-cast-mark
-cast-mark c = search needs
-
-shl-mark : tie.Need-shl-mark
-shl-mark c = search needs
-
-nothing-requires-4 : tie.Need-nothing-requires-4
-nothing-requires-4 c κs = search needs
+returns-3 c =
+    let start = c .before .before .before .before .before in
+    unserved (start .args .vmpl) (start .args .allowed) (start .args .page .now) (too-high (start .args .vmpl) (start .args .page .now) (c .before .if3 .taken)) (c .nothing3 .ensures)
 
 returns-4 : tie.Need-returns-4
 returns-4 c =
-    let l = c .before .before .before .before .before .before .before .args .vmpl in
-    let p = c .before .before .before .before .before .before .before .args .page .now in
+    let start = c .before .before .before .before .before .before .before in
+    let l = start .args .vmpl in
+    let p = start .args .page .now in
     let m : bitAnd (getD p 3 0) (2 ^ (l - 1)) ≡ 0 = ap (bitAnd (getD p 3 0)) (sym (mark-is l (omega arith))) ∙ c .before .if4 .taken in
-    unannounced (c .before .before .before .before .before .before .before .args .vmpl) (c .before .before .before .before .before .before .before .args .allowed) (c .before .before .before .before .before .before .before .args .page .now) (served l p (omega arith) (omega arith) (omega arith))
+    unannounced (start .args .vmpl) (start .args .allowed) (start .args .page .now) (served l p (omega arith) (omega arith) (omega arith))
     (announces-is l p (omega arith) (omega arith) ∙ mask-clear (l - 1) (getD p 3 0) m) (c .nothing4 .ensures)
-
-mul-a : tie.Need-mul-a
-mul-a c = search needs
-
-add-e : tie.Need-add-e
-add-e c = search needs
-
-sub-read-descriptor : tie.Need-sub-read-descriptor
-sub-read-descriptor c = search needs
-
-part-read-descriptor-start : tie.Need-part-read-descriptor-start
-part-read-descriptor-start c = search needs
-
-part-read-descriptor-end : tie.Need-part-read-descriptor-end
-part-read-descriptor-end c = search needs
-
-read-descriptor-requires : tie.Need-read-descriptor-requires
-read-descriptor-requires c κs = search needs
-
-sub-clear-descriptor : tie.Need-sub-clear-descriptor
-sub-clear-descriptor c = search needs
-
-part-clear-descriptor-start : tie.Need-part-clear-descriptor-start
-part-clear-descriptor-start c = search needs
-
-part-clear-descriptor-end : tie.Need-part-clear-descriptor-end
-part-clear-descriptor-end c = search needs
-
-clear-descriptor-requires : tie.Need-clear-descriptor-requires
-clear-descriptor-requires c κs = search needs
-
-slice-write-page : tie.Need-slice-write-page
-slice-write-page c = search needs
-
-same-length : tie.Need-same-length
-same-length c = search needs
 
 returns-5 : tie.Need-returns-5
 returns-5 c =
-    let l = c .before .before .before .before .before .before .before .before .before .before .before .before .before .args .vmpl in
-    let p = c .before .before .before .before .before .before .before .before .before .before .before .before .before .args .page .now in
+    let start = c .before .before .before .before .before .before .before .before .before .before .before .before .before in
+    let l = start .args .vmpl in
+    let p = start .args .page .now in
     let k : 64 * l + 32 - 64 * l ≡ 32 = omega arith in
     let m : bitAnd (getD p 3 0) (2 ^ (l - 1)) ≡ 0 → ⊥ = λ e. c .before .before .before .before .before .before .before .if4 .left (ap (bitAnd (getD p 3 0)) (mark-is l (omega arith)) ∙ e) in
-    announced (c .before .before .before .before .before .before .before .before .before .before .before .before .before .args .vmpl) (c .before .before .before .before .before .before .before .before .before .before .before .before .before .args .allowed) (c .before .before .before .before .before .before .before .before .before .before .before .before .before .args .page .now) (served l p (omega arith) (omega arith) (omega arith))
+    announced (start .args .vmpl) (start .args .allowed) (start .args .page .now) (served l p (omega arith) (omega arith) (omega arith))
     (announces-is l p (omega arith) (omega arith) ∙ mask-set (l - 1) (getD p 3 0) m)
-    (c .before .before .before .before .read-descriptor .ensures ∙ ap (admits (c .before .before .before .before .before .before .before .before .before .before .before .before .before .args .allowed)) (part l p k))
+    (c .before .before .before .before .read-descriptor .ensures ∙ ap (admits (start .args .allowed)) (part l p k))
     (finish l p (c .before .before .clear-descriptor .last .0) k (mark-is l (omega arith)) (omega arith) (omega arith) (omega arith)
     (λ j. omega (arith, c .before .before .before .before .before .before .before .before .before .before .before .before .slice-known .given j)) (c .before .before .clear-descriptor .ensures))
 
@@ -116,27 +67,27 @@ pub take-notice-spec : {M : Type 1} → statement M
 take-notice-spec =
     tie.close
     (tie.spec
-    nothing-requires
+    (λ c κs. search needs)
     returns
-    nothing-requires-2
+    (λ c κs. search needs)
     returns-2
-    nothing-requires-3
+    (λ c κs. search needs)
     returns-3
-    slice-read-info
-    cast-mark
-    shl-mark
-    nothing-requires-4
+    (λ c. search needs)
+    (λ c. search needs)
+    (λ c. search needs)
+    (λ c κs. search needs)
     returns-4
-    mul-a
-    add-e
-    sub-read-descriptor
-    part-read-descriptor-start
-    part-read-descriptor-end
-    read-descriptor-requires
-    sub-clear-descriptor
-    part-clear-descriptor-start
-    part-clear-descriptor-end
-    clear-descriptor-requires
-    slice-write-page
-    same-length
+    (λ c. search needs)
+    (λ c. search needs)
+    (λ c. search needs)
+    (λ c. search needs)
+    (λ c. search needs)
+    (λ c κs. search needs)
+    (λ c. search needs)
+    (λ c. search needs)
+    (λ c. search needs)
+    (λ c κs. search needs)
+    (λ c. search needs)
+    (λ c. search needs)
     returns-5)

@@ -23,18 +23,6 @@ one : (d : List ℕ) → clearing request d ≡ clearing (clearsBit false) d
 unfolding clearsBit
 one d = clearing-ext request (clearsBit false) d (λ k. sym (or-false (request k)))
 
-slice-read-many : tie.Need-slice-read-many
-slice-read-many c = search needs
-
-clear-request-requires : tie.Need-clear-request-requires
-clear-request-requires c κs = search needs
-
-clear-marks-requires : tie.Need-clear-marks-requires
-clear-marks-requires c κs = search needs
-
-same-length : tie.Need-same-length
-same-length c = search needs
-
 returns : tie.Need-returns
 unfolding bitOf
 returns c =
@@ -42,9 +30,6 @@ returns c =
     let m : bitOf d 14 ≡ true = mask-set 6 (getD d 1 0) (c .before .before .before .before .if1 .taken) in
     c .before .before .clear-marks .ensures ∙ ap (clearing (λ k. leb 31 k)) (c .before .before .before .before .before .before .before .clear-request .ensures)
     ∙ many d ∙ ap (λ (t : Bool). clearing (clearsBit t) d) (sym m)
-
-same-length-2 : tie.Need-same-length-2
-same-length-2 c = search needs
 
 returns-2 : tie.Need-returns-2
 unfolding bitOf
@@ -57,10 +42,10 @@ pub clear-descriptor-spec : {M : Type 1} → statement M
 clear-descriptor-spec =
     tie.close
     (tie.spec
-    slice-read-many
-    clear-request-requires
-    clear-marks-requires
-    same-length
+    (λ c. search needs)
+    (λ c κs. search needs)
+    (λ c κs. search needs)
+    (λ c. search needs)
     returns
-    same-length-2
+    (λ c. search needs)
     returns-2)

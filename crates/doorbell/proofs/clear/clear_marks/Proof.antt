@@ -40,36 +40,21 @@ Inv-loop d₀ j₀ d j = (length d ≡ 32) × (4 ≤ j) × (j ≤ 32) × ((i : �
 abbrev μ-loop : tie.MeasureT-loop
 μ-loop d₀ j₀ d j = 32 - j
 
-slice-read-d : tie.Need-slice-read-d Inv-loop μ-loop
-slice-read-d c = omega arith
-
-slice-write-d : tie.Need-slice-write-d Inv-loop μ-loop
-slice-write-d c = omega arith
-
 loop-holds : tie.Need-loop-holds Inv-loop μ-loop
 loop-holds c = (simp length-set (omega arith), omega arith, omega arith, λ i h. rw (lt-ltb i 4 h))
-
-slice-write-d-2 : tie.Need-slice-write-d-2 Inv-loop μ-loop
-slice-write-d-2 c = omega arith
-
-add-j : tie.Need-add-j Inv-loop μ-loop
-add-j c = omega arith
-
-loop-less : tie.Need-loop-less Inv-loop μ-loop
-loop-less c = omega arith
 
 loop-again : tie.Need-loop-again Inv-loop μ-loop
 loop-again c =
     let i = c .before .loop .inv in
-    let f = front (set (c .before .before .before .args .d .now) 3 (bitAnd (getD (c .before .before .before .args .d .now) 3 0) 127)) in
-    (simp length-set (omega arith), omega arith, omega arith,
-    subst
-    (λ (x : ℕ). (i : ℕ) → i < c .before .loop .j + 1 → getD (set (c .before .loop .d) (c .before .loop .j) x) i 0 ≡ f i)
-    (rw (le-ltb (c .before .loop .j) 4 (omega arith)))
-    (filled (c .before .loop .d) f (c .before .loop .j) (omega arith) (i .3)))
-
-same-length : tie.Need-same-length Inv-loop μ-loop
-same-length c = omega arith
+    let f = front (set (c .before .before .before .args .d .now) 3 (bitAnd (getD (c .before .before .before .args .d .now) 3 0) 127)) in (
+      simp length-set (omega arith),
+      omega arith,
+      omega arith,
+      subst
+          (λ (x : ℕ). (i : ℕ) → i < c .before .loop .j + 1 → getD (set (c .before .loop .d) (c .before .loop .j) x) i 0 ≡ f i)
+          (rw (le-ltb (c .before .loop .j) 4 (omega arith)))
+          (filled (c .before .loop .d) f (c .before .loop .j) (omega arith) (i .3)),
+    )
 
 returns : tie.Need-returns Inv-loop μ-loop
 returns c =
@@ -85,12 +70,12 @@ clear-marks-spec =
     (tie.spec
     Inv-loop
     μ-loop
-    slice-read-d
-    slice-write-d
+    (λ c. omega arith)
+    (λ c. omega arith)
     loop-holds
-    slice-write-d-2
-    add-j
-    loop-less
+    (λ c. omega arith)
+    (λ c. omega arith)
+    (λ c. omega arith)
     loop-again
-    same-length
+    (λ c. omega arith)
     returns)

@@ -41,18 +41,6 @@ byte d j l s =
     )
     (place j 1)
 
-slice-read-flags : tie.Need-slice-read-flags
-slice-read-flags c = search needs
-
-slice-write-d : tie.Need-slice-write-d
-slice-write-d c = search needs
-
-slice-write-d-2 : tie.Need-slice-write-d-2
-slice-write-d-2 c = search needs
-
-same-length : tie.Need-same-length
-same-length c = search needs
-
 returns : tie.Need-returns
 returns c =
     is-clearing request (c .before .args .d .now) (stored (c .before .args .d .now)) (simp length-set)
@@ -60,4 +48,4 @@ returns c =
 
 pub clear-request-spec : {M : Type 1} → statement M
 clear-request-spec =
-    tie.close (tie.spec slice-read-flags slice-write-d slice-write-d-2 same-length returns)
+    tie.close (tie.spec (λ c. search needs) (λ c. search needs) (λ c. search needs) (λ c. search needs) returns)

@@ -6,42 +6,26 @@ use borrow.Author.Needs.{needs}
 use Rattle.doorbell.proofs.descriptor.many_edges.Statement.{statement}
 use Rattle.doorbell.proofs.descriptor.many_edges.Tie as tie
 
-marks-requires : tie.Need-marks-requires
-marks-requires c κs = search needs
-
-intersection-requires : tie.Need-intersection-requires
-intersection-requires c κs = search needs
-
-from-31-requires : tie.Need-from-31-requires
-from-31-requires c κs = search needs
-
-enum-known-level : tie.Need-enum-known-level
-enum-known-level c = search needs
-
-remove-requires : tie.Need-remove-requires
-remove-requires c κs = search needs
-
-enum-told : tie.Need-enum-told
-enum-told c = search needs
-
 returns : tie.Need-returns
 returns c =
+    let start = c .before .before .before .before .before .before .before .before in
     let z = c .before .before .level .given in
-    cc (many-some (c .before .before .before .before .before .before .before .before .args .allowed) (c .before .before .before .before .before .before .before .before .args .d .now) (z .0 .0) (ap vectorOf (sym (z .1)) ∙ c .before .before .before .before .before .before .before .before .pre .1) (c .before .before .before .before .before .before .before .before .pre .2))
+    cc (many-some (start .args .allowed) (start .args .d .now) (z .0 .0) (ap vectorOf (sym (z .1)) ∙ start .pre .1) (start .pre .2))
 
 returns-2 : tie.Need-returns-2
 returns-2 c =
-    cc (many-none (c .before .before .before .before .before .before .args .allowed) (c .before .before .before .before .before .before .args .d .now) (ap vectorOf (sym (c .enum-told .given .1)) ∙ c .before .before .before .before .before .before .pre .1) (c .before .before .before .before .before .before .pre .2))
+    let start = c .before .before .before .before .before .before in
+    cc (many-none (start .args .allowed) (start .args .d .now) (ap vectorOf (sym (c .enum-told .given .1)) ∙ start .pre .1) (start .pre .2))
 
 pub many-edges-spec : {M : Type 1} → statement M
 many-edges-spec =
     tie.close
     (tie.spec
-    marks-requires
-    intersection-requires
-    from-31-requires
-    enum-known-level
-    remove-requires
-    enum-told
+    (λ c κs. search needs)
+    (λ c κs. search needs)
+    (λ c κs. search needs)
+    (λ c. search needs)
+    (λ c κs. search needs)
+    (λ c. search needs)
     returns
     returns-2)

@@ -8,18 +8,12 @@ use borrow.Author.Needs.{needs}
 use Rattle.doorbell.proofs.descriptor.nmi_of.Statement.{statement}
 use Rattle.doorbell.proofs.descriptor.nmi_of.Tie as tie
 
-shared-slice-read-if1 : tie.Need-shared-slice-read-if1
-shared-slice-read-if1 c = search needs
-
 returns : tie.Need-returns
 unfolding bitOf admitsNmi
 returns c =
     let d = c .before .before .before .args .d .now in
     let m : bitOf d 8 ≡ false = mask-clear 0 (getD d 1 0) (c .if1 .taken) in
     rw m
-
-contains-requires : tie.Need-contains-requires
-contains-requires c κs = search needs
 
 returns-2 : tie.Need-returns-2
 unfolding bitOf admitsNmi
@@ -29,4 +23,4 @@ returns-2 c =
     rw m (c .contains .ensures)
 
 pub nmi-of-spec : {M : Type 1} → statement M
-nmi-of-spec = tie.close (tie.spec shared-slice-read-if1 returns contains-requires returns-2)
+nmi-of-spec = tie.close (tie.spec (λ c. search needs) returns (λ c κs. search needs) returns-2)

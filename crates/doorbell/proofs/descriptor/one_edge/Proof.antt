@@ -13,66 +13,55 @@ use borrow.Author.Needs.{needs}
 use Rattle.doorbell.proofs.descriptor.one_edge.Statement.{statement}
 use Rattle.doorbell.proofs.descriptor.one_edge.Tie as tie
 
-shared-slice-read-v : tie.Need-shared-slice-read-v
-shared-slice-read-v c = search needs
-
-no-vectors-requires : tie.Need-no-vectors-requires
-no-vectors-requires c κs = search needs
-
-shared-slice-read-if1 : tie.Need-shared-slice-read-if1
-shared-slice-read-if1 c = search needs
-
 returns : tie.Need-returns
 unfolding bitOf
 returns c =
-    let d = c .before .before .before .before .before .args .d .now in
+    let start = c .before .before .before .before .before in
+    let d = start .args .d .now in
     let s : getD d 0 0 < 256 = omega (arith, c .before .before .before .before .shared-slice-known .given 0) in
-    c .before .before .no-vectors .ensures ∙ sym (one-is (c .before .before .before .before .before .args .allowed) (c .before .before .before .before .before .args .d .now) (c .before .before .before .before .before .pre .1) s (mask-set 2 (getD d 1 0) (c .if1 .taken)) refl refl)
+    c .before .before .no-vectors .ensures ∙ sym (one-is (start .args .allowed) (start .args .d .now) (start .pre .1) s (mask-set 2 (getD d 1 0) (c .if1 .taken)) refl refl)
 
 returns-2 : tie.Need-returns-2
 unfolding bitOf
 returns-2 c =
-    let d = c .before .before .before .before .before .before .args .d .now in
+    let start = c .before .before .before .before .before .before in
+    let d = start .args .d .now in
     let s : getD d 0 0 < 256 = omega (arith, c .before .before .before .before .before .shared-slice-known .given 0) in
     c .before .before .before .no-vectors .ensures
-    ∙ sym (one-is (c .before .before .before .before .before .before .args .allowed) (c .before .before .before .before .before .before .args .d .now) (c .before .before .before .before .before .before .pre .1) s (mask-clear 2 (getD d 1 0) (c .before .if1 .left)) (lt-leb 31 (getD d 0 0) (c .if2 .taken)) refl)
-
-contains-requires : tie.Need-contains-requires
-contains-requires c κs = search needs
-
-insert-requires : tie.Need-insert-requires
-insert-requires c κs = search needs
+    ∙ sym (one-is (start .args .allowed) (start .args .d .now) (start .pre .1) s (mask-clear 2 (getD d 1 0) (c .before .if1 .left)) (lt-leb 31 (getD d 0 0) (c .if2 .taken)) refl)
 
 returns-3 : tie.Need-returns-3
 unfolding bitOf
 returns-3 c =
-    let d = c .before .before .before .before .before .before .before .before .before .args .d .now in
+    let start = c .before .before .before .before .before .before .before .before .before in
+    let d = start .args .d .now in
     let s : getD d 0 0 < 256 = omega (arith, c .before .before .before .before .before .before .before .before .shared-slice-known .given 0) in
     c .insert .ensures ∙ ap (insert (getD d 0 0)) (c .before .before .before .before .before .before .no-vectors .ensures)
     ∙ sym
-    (one-is (c .before .before .before .before .before .before .before .before .before .args .allowed) (c .before .before .before .before .before .before .before .before .before .args .d .now) (c .before .before .before .before .before .before .before .before .before .pre .1) s (mask-clear 2 (getD d 1 0) (c .before .before .before .before .if1 .left)) (le-leb 31 (getD d 0 0) (c .before .before .before .if2 .left))
+    (one-is (start .args .allowed) (start .args .d .now) (start .pre .1) s (mask-clear 2 (getD d 1 0) (c .before .before .before .before .if1 .left)) (le-leb 31 (getD d 0 0) (c .before .before .before .if2 .left))
     (sym (c .before .before .contains .ensures) ∙ c .before .if3 .taken))
 
 returns-4 : tie.Need-returns-4
 unfolding bitOf
 returns-4 c =
-    let d = c .before .before .before .before .before .before .before .before .args .d .now in
+    let start = c .before .before .before .before .before .before .before .before in
+    let d = start .args .d .now in
     let s : getD d 0 0 < 256 = omega (arith, c .before .before .before .before .before .before .before .shared-slice-known .given 0) in
     c .before .before .before .before .before .no-vectors .ensures
     ∙ sym
-    (one-is (c .before .before .before .before .before .before .before .before .args .allowed) (c .before .before .before .before .before .before .before .before .args .d .now) (c .before .before .before .before .before .before .before .before .pre .1) s (mask-clear 2 (getD d 1 0) (c .before .before .before .if1 .left)) (le-leb 31 (getD d 0 0) (c .before .before .if2 .left))
+    (one-is (start .args .allowed) (start .args .d .now) (start .pre .1) s (mask-clear 2 (getD d 1 0) (c .before .before .before .if1 .left)) (le-leb 31 (getD d 0 0) (c .before .before .if2 .left))
     (sym (c .before .contains .ensures) ∙ c .if3 .left))
 
 pub one-edge-spec : {M : Type 1} → statement M
 one-edge-spec =
     tie.close
     (tie.spec
-    shared-slice-read-v
-    no-vectors-requires
-    shared-slice-read-if1
+    (λ c. search needs)
+    (λ c κs. search needs)
+    (λ c. search needs)
     returns
     returns-2
-    contains-requires
-    insert-requires
+    (λ c κs. search needs)
+    (λ c κs. search needs)
     returns-3
     returns-4)

@@ -1,0 +1,37 @@
+-- `doorbell::descriptor::word_of` meets its contract: a word is four bytes. Assumes nothing.
+use mathlib.Core.Path.{_≡_}
+use native.Mathlib.Omega.{arith}
+use Rattle.doorbell.specs.Bytes.{word-bytes}
+use borrow.Author.Needs.{needs}
+use Rattle.doorbell.proofs.descriptor.word_of.Statement.{statement}
+use Rattle.doorbell.proofs.descriptor.word_of.Tie as tie
+
+returns : tie.Need-returns
+returns c =
+    omega (
+      arith,
+      word-bytes (c .before .before .before .before .before .args .d .now) (c .before .before .before .before .before .args .at) (λ i. omega (arith, c .before .before .before .before .shared-slice-known .given i)),
+      c .byte-at4 .ensures .0,
+      c .before .byte-at3 .ensures .0,
+      c .before .before .byte-at2 .ensures .0,
+      c .before .before .before .byte-at .ensures .0,
+    )
+
+pub word-of-spec : {M : Type 1} → statement M
+word-of-spec =
+    tie.close
+    (tie.spec
+    (λ c κs. search needs)
+    (λ c. search needs)
+    (λ c κs. search needs)
+    (λ c. search needs)
+    (λ c. search needs)
+    (λ c. search needs)
+    (λ c κs. search needs)
+    (λ c. search needs)
+    (λ c κs. search needs)
+    (λ c. search needs)
+    (λ c. search needs)
+    (λ c. search needs)
+    (λ c. search needs)
+    returns)

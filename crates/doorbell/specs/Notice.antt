@@ -1,0 +1,152 @@
+-- The page after a notice as code leaves it: the descriptor's part replaced by what is left of it, and the announcing bit masked out.
+-- Assumes nothing.
+use mathlib.Core.Path.{_≡_, refl, sym, ap, _∙_, subst}
+use mathlib.Core.Bool.{Bool, true, false, not, _&&_, _||_, or-false}
+use mathlib.Core.List.{List}
+use mathlib.Core.Logic.{⊎-elim}
+use Prim.Native.Nat.{ℕ, zero, suc, _+_, _*_, _-_, _/_, _%_, _^_, _<_, _≤_}
+use native.Mathlib.Omega.{arith}
+use native.Mathlib.Nat.{one-mul, mod-eq-of-lt}
+use lib.Dec.{leb, ltb, eqb}
+use lib.ListN.{length, getD, take, drop, set, length-set, length-drop}
+use lib.Seq.{getD-set-same, getD-set-other, getD-take, getD-drop, length-take-le}
+use lib.Bits.{bitAnd}
+use lib.Pow.{pow-lt}
+use borrow.Author.Tests.{lt-leb, le-leb, lt-ltb, le-ltb, eq-eqb, ne-eqb, eqb-true, eqb-false}
+use Rattle.vector_set.specs.Bits.{bitAt}
+use Rattle.vector_set.specs.BitLaws.{bit-not, bit-pow}
+use Rattle.model.specs.Doorbell.{bitOf, announces, descriptor, clearsBit, clears}
+use Rattle.doorbell.specs.Bytes.{split, place, spliced, spliced-length, spliced-before, spliced-in, spliced-after}
+use Rattle.doorbell.specs.Clear.{clearing, Cleared, cleared-at, clearing-length, is-clearing, keeps, masks}
+
+eqb-same : (a b c d : ℕ) → (a ≡ b → c ≡ d) → (c ≡ d → a ≡ b) → eqb a b ≡ eqb c d
+eqb-same a b c d f g = go (eqb a b) refl
+  where
+    go : (t : Bool) → eqb a b ≡ t → t ≡ eqb c d
+    go true e = sym (eq-eqb c d (f (eqb-true a b e)))
+    go false e = sym (ne-eqb c d (λ q. eqb-false a b e (g q)))
+
+-- the announcing bit is bit L - 1 of byte 3
+pub announces-is : (l : ℕ) (p : List ℕ) → 1 ≤ l → l ≤ 3 → announces l p ≡ bitAt (getD p 3 0) (l - 1)
+unfolding announces bitOf
+announces-is l p a b =
+    let d : (8 * 2 + (7 + l)) / 8 ≡ 3 = omega arith in
+    let m : (8 * 2 + (7 + l)) % 8 ≡ l - 1 = omega arith in
+    rw (d, m)
+
+-- 1 shifted by L - 1 within a byte
+pub mark-is : (l : ℕ) → l ≤ 3 → 1 * 2 ^ (l - 1) % 256 ≡ 2 ^ (l - 1)
+mark-is l h =
+    ap (λ (x : ℕ). x % 256) (one-mul (2 ^ (l - 1))) ∙ mod-eq-of-lt (pow-lt {i = l - 1} {j = 8} (omega arith))
+
+module _ (l : ℕ) (many : Bool) (low : 1 ≤ l) (high : l ≤ 3) where
+  -- ---- which bits of a byte are cleared
+  clears-mark : (b : ℕ) → b < 8 → clears l many (8 * 3 + b) ≡ eqb b (l - 1)
+  unfolding clears
+  clears-mark b r =
+      rw (lt-leb (512 * l) (8 * 3 + b) (omega arith), or-false (eqb (8 * 3 + b) (8 * 2 + (7 + l))))
+      (eqb-same (8 * 3 + b) (8 * 2 + (7 + l)) b (l - 1) (λ (q : 8 * 3 + b ≡ 8 * 2 + (7 + l)). omega arith) (λ (q : b ≡ l - 1). omega arith))
+
+  clears-in : (i b : ℕ) → i < 32 → b < 8 → clears l many (8 * (64 * l + i) + b) ≡ clearsBit many (8 * i + b)
+  unfolding clears
+  clears-in i b h r =
+      let e : 8 * (64 * l + i) + b - 512 * l ≡ 8 * i + b = omega arith in
+      rw (
+        ne-eqb (8 * (64 * l + i) + b) (8 * 2 + (7 + l)) (λ (q : 8 * (64 * l + i) + b ≡ 8 * 2 + (7 + l)). omega arith),
+        le-leb (512 * l) (8 * (64 * l + i) + b) (omega arith),
+        lt-ltb (8 * (64 * l + i) + b) (512 * l + 256) (omega arith),
+        e,
+      )
+
+  clears-before : (j b : ℕ) → (j ≡ 3 → ⊥) → j < 64 * l → b < 8 → clears l many (8 * j + b) ≡ false
+  unfolding clears
+  clears-before j b n h r =
+      rw (
+        ne-eqb (8 * j + b) (8 * 2 + (7 + l)) (λ (q : 8 * j + b ≡ 8 * 2 + (7 + l)). n (omega arith)),
+        lt-leb (512 * l) (8 * j + b) (omega arith),
+      )
+
+  clears-after : (j b : ℕ) → 64 * l + 32 ≤ j → b < 8 → clears l many (8 * j + b) ≡ false
+  unfolding clears
+  clears-after j b h r =
+      rw (
+        ne-eqb (8 * j + b) (8 * 2 + (7 + l)) (λ (q : 8 * j + b ≡ 8 * 2 + (7 + l)). omega arith),
+        le-leb (512 * l) (8 * j + b) (omega arith),
+        le-ltb (8 * j + b) (512 * l + 256) (omega arith),
+      )
+
+  -- ---- the page, byte by byte
+  module _ (p : List ℕ) (long : 256 ≤ length p) (small : (j : ℕ) → getD p j 0 < 256) where
+    abbrev rest : List ℕ
+    rest = clearing (clearsBit many) (take 32 (drop (64 * l) p))
+
+    abbrev mask : ℕ
+    mask = 255 - 2 ^ (l - 1)
+
+    abbrev lent : List ℕ
+    lent = spliced p (64 * l) 32 rest
+
+    part-length : length (take 32 (drop (64 * l) p)) ≡ 32
+    part-length = length-take-le 32 (drop (64 * l) p) (rw (length-drop (64 * l) p) (omega arith))
+
+    rest-length : length rest ≡ 32
+    rest-length = clearing-length (clearsBit many) (take 32 (drop (64 * l) p)) ∙ part-length
+
+    lent-length : length lent ≡ length p
+    lent-length = spliced-length p (64 * l) 32 rest (omega arith) rest-length
+
+    mark-byte : Cleared (clears l many) 3 (getD p 3 0) (bitAnd (getD p 3 0) mask)
+    mark-byte =
+        masks (clears l many) 3 (getD p 3 0) mask (omega arith)
+        (λ b r.
+        bit-not 8 (2 ^ (l - 1)) b (pow-lt {i = l - 1} {j = 8} (omega arith)) r ∙ ap not (bit-pow (l - 1) b ∙ sym (clears-mark b r)))
+
+    kept : (j : ℕ) → ((b : ℕ) → b < 8 → clears l many (8 * j + b) ≡ false) → getD lent j 0 ≡ getD p j 0
+        → Cleared (clears l many) j (getD p j 0) (getD lent j 0)
+    kept j n e = subst (Cleared (clears l many) j (getD p j 0)) (sym e) (keeps (clears l many) j (getD p j 0) (small j) n)
+
+    part-byte : (i : ℕ) → i < 32 → Cleared (clears l many) (64 * l + i) (getD p (64 * l + i) 0) (getD lent (64 * l + i) 0)
+    part-byte i h =
+        let c = cleared-at (clearsBit many) (take 32 (drop (64 * l) p)) i (omega (arith, part-length)) in
+        let e : getD (take 32 (drop (64 * l) p)) i 0 ≡ getD p (64 * l + i) 0 = getD-take 32 (drop (64 * l) p) i 0 h ∙ getD-drop (64 * l) p i 0 in
+        let y : getD lent (64 * l + i) 0 ≡ getD rest i 0 = spliced-in p (64 * l) 32 rest (omega arith) rest-length i h in
+        record {
+          small = rw y (c .small);
+          bit = λ b r. ap (λ (x : ℕ). bitAt x b) y ∙ c .bit b r
+              ∙ ap (λ (x : ℕ). bitAt x b && not (clearsBit many (8 * i + b))) e
+              ∙ ap (λ (t : Bool). bitAt (getD p (64 * l + i) 0) b && not t) (sym (clears-in i b h r));
+        }
+
+    other : (j : ℕ) → (j ≡ 3 → ⊥) → Cleared (clears l many) j (getD p j 0) (getD lent j 0)
+    other j n =
+        ⊎-elim
+        (λ (h : j < 64 * l). kept j (λ b r. clears-before j b n h r) (spliced-before p (64 * l) 32 rest (omega arith) rest-length j h))
+        (λ (h : 64 * l ≤ j). ⊎-elim
+        (λ (i : j < 64 * l + 32).
+        let e : 64 * l + (j - 64 * l) ≡ j = omega arith in
+        subst (λ (k : ℕ). Cleared (clears l many) k (getD p k 0) (getD lent k 0)) e (part-byte (j - 64 * l) (omega arith)))
+        (λ (i : 64 * l + 32 ≤ j). kept j (λ b r. clears-after j b i r) (spliced-after p (64 * l) 32 rest (omega arith) rest-length j i))
+        (split j (64 * l + 32)))
+        (split j (64 * l))
+
+    abbrev after : List ℕ
+    after = set lent 3 (bitAnd (getD p 3 0) mask)
+
+    away : (j : ℕ) → (j ≡ 3 → ⊥) → Cleared (clears l many) j (getD p j 0) (getD after j 0)
+    away j n = subst (Cleared (clears l many) j (getD p j 0)) (sym (getD-set-other lent 3 j (bitAnd (getD p 3 0) mask) 0 n)) (other j n)
+
+    byte : (j : ℕ) → Cleared (clears l many) j (getD p j 0) (getD after j 0)
+    byte j =
+        ⊎-elim
+        (λ (h : j < 3). away j (λ (q : j ≡ 3). omega arith))
+        (⊎-elim
+        (λ (e : j ≡ 3).
+        subst (λ (k : ℕ). Cleared (clears l many) k (getD p k 0) (getD after k 0)) (sym e)
+        (subst (Cleared (clears l many) 3 (getD p 3 0)) (sym (getD-set-same lent 3 (bitAnd (getD p 3 0) mask) 0 (omega (arith, lent-length)))) mark-byte))
+        (λ (h : 3 < j). away j (λ (q : j ≡ 3). omega arith)))
+        (place j 3)
+
+    pub page-is : after ≡ clearing (clears l many) p
+    page-is =
+        is-clearing (clears l many) p after
+        (length-set lent 3 (bitAnd (getD p 3 0) mask) ∙ lent-length) (λ j h. byte j)

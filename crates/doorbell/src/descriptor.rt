@@ -1,0 +1,127 @@
+// The descriptor: what its 32 bytes admit.
+ghost use mathlib.Core.Path.{_≡_};
+ghost use mathlib.Core.Bool.{true, false};
+ghost use Prim.Native.Nat.{_+_, _*_, _≤_, _<_};
+ghost use lib.ListN.{length, getD};
+ghost use Rattle.vector_set.specs.Bits.{bits};
+ghost use Rattle.vector_set.specs.Sets.{collect, vectorOf};
+ghost use Rattle.model.specs.Doorbell.{bitOf, manyBit, levelBit, partOf, admitsNmi, admitsLevel, admitsEdge, admits};
+use model::Admitted;
+use vector_set::Found;
+
+// Bits 8, 10 and 14 of the descriptor, as bits of its byte 1.
+const NMI: u8 = 0x01;
+
+const LEVEL: u8 = 0x04;
+
+const MANY: u8 = 0x40;
+
+// The lowest vector that a descriptor can name.
+const LOWEST: u8 = 31;
+
+fn byte_at(d: &[u8], i: usize) -> u32
+    requires { ⌜ i < length (now d) ⌝ }
+    ensures { λ r. ⌜ (r ≡ getD (now (d .entry)) i 0) × (r < 256) ⌝ }
+{
+    d[i] as u32
+}
+
+// The 32 bits from byte `at` on.
+fn word_of(d: &[u8], at: usize) -> u32
+    requires { ⌜ at + 4 ≤ length (now d) ⌝ }
+    ensures { λ r. ⌜ r ≡ bits (bitOf (now (d .entry))) (8 * at) 32 ⌝ }
+{
+    let low = byte_at(d, at) + 256 * byte_at(d, at + 1);
+    let high = byte_at(d, at + 2) + 256 * byte_at(d, at + 3);
+    low + 65536 * high
+}
+
+// The bits of the descriptor as a set of vectors.
+fn marks(d: &[u8]) -> [u32; 8]
+    requires { ⌜ length (now d) ≡ 32 ⌝ }
+    ensures { λ r. ⌜ r ≡ collect (bitOf (now (d .entry))) ⌝ }
+{
+    [
+        word_of(d, 0),
+        word_of(d, 4),
+        word_of(d, 8),
+        word_of(d, 12),
+        word_of(d, 16),
+        word_of(d, 20),
+        word_of(d, 24),
+        word_of(d, 28),
+    ]
+}
+
+fn nmi_of(d: &[u8], allowed: [u32; 8]) -> bool
+    requires { ⌜ length (now d) ≡ 32 ⌝ }
+    ensures { λ r. ⌜ r ≡ admitsNmi allowed (now (d .entry)) ⌝ }
+{
+    if d[1] & NMI == 0 {
+        return false;
+    }
+    vector_set::contains(allowed, 2)
+}
+
+fn level_of(d: &[u8], allowed: [u32; 8]) -> Found
+    requires { ⌜ length (now d) ≡ 32 ⌝ }
+    ensures { λ r. ⌜ vectorOf r ≡ admitsLevel allowed (now (d .entry)) ⌝ }
+{
+    let level = d[0];
+    if d[1] & LEVEL == 0 {
+        return Found::Nothing;
+    }
+    if level < LOWEST {
+        return Found::Nothing;
+    }
+    if vector_set::contains(allowed, level) {
+        return Found::Vector(level);
+    }
+    Found::Nothing
+}
+
+// The edge set where bit 14 is set: the marked vectors 31 to 255 other than the level-sensitive one.
+fn many_edges(d: &[u8], allowed: [u32; 8], level: Found) -> [u32; 8]
+    requires { ⌜ (length (now d) ≡ 32) × (vectorOf level ≡ admitsLevel allowed (now d)) × (bitOf (now d) manyBit ≡ true) ⌝ }
+    ensures { λ r. ⌜ r ≡ collect (admitsEdge allowed (now (d .entry))) ⌝ }
+{
+    let marked = vector_set::from_31(vector_set::intersection(marks(d), allowed));
+    match level {
+        Found::Vector(v) => vector_set::remove(marked, v),
+        Found::Nothing => marked,
+    }
+}
+
+// The edge set where bit 14 is clear: the one vector, unless it is level-sensitive.
+fn one_edge(d: &[u8], allowed: [u32; 8]) -> [u32; 8]
+    requires { ⌜ (length (now d) ≡ 32) × (bitOf (now d) manyBit ≡ false) ⌝ }
+    ensures { λ r. ⌜ r ≡ collect (admitsEdge allowed (now (d .entry))) ⌝ }
+{
+    let edge = d[0];
+    let none = vector_set::no_vectors();
+    if d[1] & LEVEL != 0 {
+        return none;
+    }
+    if edge < LOWEST {
+        return none;
+    }
+    if vector_set::contains(allowed, edge) {
+        return vector_set::insert(none, edge);
+    }
+    none
+}
+
+// What the descriptor admits under the allowed set.
+pub fn read_descriptor(d: &[u8], allowed: [u32; 8]) -> Admitted
+    requires { ⌜ length (now d) ≡ 32 ⌝ }
+    ensures { λ r. ⌜ partOf r ≡ admits allowed (now (d .entry)) ⌝ }
+{
+    let nmi = nmi_of(d, allowed);
+    let level = level_of(d, allowed);
+    if d[1] & MANY != 0 {
+        let edge = many_edges(d, allowed, level);
+        return Admitted { nmi, level, edge };
+    }
+    let edge = one_edge(d, allowed);
+    Admitted { nmi, level, edge }
+}

@@ -86,7 +86,7 @@ known-of m (handBack i p iF sh) h = known m i isLeaving refl NotLeaving (need (l
 
 -- ---- a record after one was stored, and after an IPI
 -- what is shown of the record j after the record i became v: at i itself, and at any other
-on-put : (m : Module) (i : ℕ) (v : Vcpu) (j : ℕ) → i < length (m .vcpus) → (P : ℕ → Bool → Vcpu → Vcpu → Type 0)
+pub on-put : (m : Module) (i : ℕ) (v : Vcpu) (j : ℕ) → i < length (m .vcpus) → (P : ℕ → Bool → Vcpu → Vcpu → Type 0)
     → P i true (vcpuAt m i) v → P j false (vcpuAt m j) (vcpuAt m j) → P j (eqb j i) (vcpuAt m j) (vcpuAt (withVcpu m i v) j)
 unfolding vcpuAt withVcpu
 on-put m i v j h P yes′ no′ = pick (eqb j i) refl
@@ -95,11 +95,11 @@ on-put m i v j h P yes′ no′ = pick (eqb j i) refl
     pick true e = rw (eqb-true j i e, getD-set-same (m .vcpus) i v absent h) yes′
     pick false e = rw (getD-set-other (m .vcpus) i j v absent (eqb-false j i e)) no′
 
-vcpuAt-count : (k : ℕ) (m : Module) (j : ℕ) → vcpuAt (withRegistrations k m) j ≡ vcpuAt m j
+pub vcpuAt-count : (k : ℕ) (m : Module) (j : ℕ) → vcpuAt (withRegistrations k m) j ≡ vcpuAt m j
 unfolding vcpuAt withRegistrations
 vcpuAt-count k m j = refl
 
-size-put : (m : Module) (i : ℕ) (v : Vcpu) → size (withVcpu m i v) ≡ size m
+pub size-put : (m : Module) (i : ℕ) (v : Vcpu) → size (withVcpu m i v) ≡ size m
 unfolding size withVcpu
 size-put m i v = refl
 
@@ -122,7 +122,7 @@ reach-absent : (y : Item) (t : Target) (i n k : ℕ) → reach y t i n k absent 
 unfolding reach bare
 reach-absent y t i n k = rw (and-false (ltb k n && hits t i k))
 
-vcpuAt-sent : (y : Item) (t : Target) (i : ℕ) (m : Module) (j : ℕ) → vcpuAt (sent y t i m) j ≡ reach y t i (size m) j (vcpuAt m j)
+pub vcpuAt-sent : (y : Item) (t : Target) (i : ℕ) (m : Module) (j : ℕ) → vcpuAt (sent y t i m) j ≡ reach y t i (size m) j (vcpuAt m j)
 unfolding vcpuAt sent
 vcpuAt-sent y t i m j =
     let e : 0 + j ≡ j = omega arith in

@@ -19,3 +19,4 @@ pub mod Reached
 pub mod Bytes
 pub mod ReadBack
 pub mod Demand2
+pub mod Cases

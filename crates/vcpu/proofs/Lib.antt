@@ -1,0 +1,3 @@
+pub mod CallsLaws
+pub mod Sets
+pub mod Told

@@ -1,0 +1,59 @@
+// A record with one of its parts changed. An enum's field is not stored to: the record is written anew.
+ghost use mathlib.Core.Path.{_≡_};
+ghost use Rattle.model.specs.State.{withPhase, withFlight};
+ghost use Rattle.vcpu.specs.Records.{servedCount};
+use model::InFlight;
+use model::Phase;
+use model::Vcpu;
+
+// The count n that a module is answered with: 0 where n or the VMPL is out of range.
+pub fn served(n: u32, vmpl: u32) -> u32
+    ensures { λ r. ⌜ r ≡ servedCount n vmpl ⌝ }
+{
+    if 32 < n {
+        return 0;
+    }
+    if vmpl < 1 {
+        return 0;
+    }
+    if 3 < vmpl {
+        return 0;
+    }
+    n
+}
+
+fn written_anew(v: Vcpu, phase: Phase, flight: InFlight) -> Vcpu
+    ensures { λ r. ⌜ r ≡ withPhase phase (withFlight flight v) ⌝ }
+{
+    let allowed = v.allowed;
+    let irr = v.irr;
+    let isr = v.isr;
+    let irr_level = v.irr_level;
+    let isr_level = v.isr_level;
+    Vcpu {
+        allowed,
+        irr,
+        isr,
+        irr_level,
+        isr_level,
+        nmi: v.nmi,
+        tpr: v.tpr,
+        icr: v.icr,
+        phase,
+        flight,
+    }
+}
+
+pub fn with_flight(v: Vcpu, flight: InFlight) -> Vcpu
+    ensures { λ r. ⌜ r ≡ withFlight flight v ⌝ }
+{
+    let phase = v.phase;
+    written_anew(v, phase, flight)
+}
+
+pub fn with_phase(v: Vcpu, phase: Phase) -> Vcpu
+    ensures { λ r. ⌜ r ≡ withPhase phase v ⌝ }
+{
+    let flight = v.flight;
+    written_anew(v, phase, flight)
+}

@@ -83,24 +83,21 @@ pub fn item_of(x: u64) -> Item
 pub fn target_of(x: u64) -> Target
     ensures { λ r. ⌜ r ≡ icrTarget x ⌝ }
 {
-    let shorthand = (x >> 18) % 4;
-    if shorthand == 1 {
-        return Target::Caller;
+    match (x >> 18) % 4 {
+        1 => Target::Caller,
+        2 => Target::All,
+        3 => Target::Others,
+        _ => {
+            let destination = x >> 32;
+            if destination == 0xFFFF_FFFF {
+                return Target::All;
+            }
+            if (x >> 11) % 2 == 1 {
+                return Target::Logical(destination as u32);
+            }
+            Target::Physical(destination as u32)
+        }
     }
-    if shorthand == 2 {
-        return Target::All;
-    }
-    if shorthand == 3 {
-        return Target::Others;
-    }
-    let destination = x >> 32;
-    if destination == 0xFFFF_FFFF {
-        return Target::All;
-    }
-    if (x >> 11) % 2 == 1 {
-        return Target::Logical(destination as u32);
-    }
-    Target::Physical(destination as u32)
 }
 
 // The vCPU k is a target of an IPI that the vCPU caller sends.

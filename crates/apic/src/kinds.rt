@@ -14,25 +14,23 @@ const B: u8 = 3;
 
 // One kind for each register 0x800 to 0x8FF.
 const KINDS: [u8; 256] = [
-    // 0x800
+    N, // 0x800
     N,
-    N,
-    R,
-    N,
-    N,
+    R, // 0x802 ID
     N,
     N,
     N,
-    B,
-    N,
-    R,
-    W,
-    N,
-    R,
     N,
     N,
-    // 0x810
-    R,
+    B, // 0x808 TPR
+    N,
+    R, // 0x80A PPR
+    W, // 0x80B EOI
+    N,
+    R, // 0x80D LDR
+    N, // 0x80E DFR, which x2APIC has not
+    N,
+    R, // 0x810 S, to 0x817
     R,
     R,
     R,
@@ -40,6 +38,7 @@ const KINDS: [u8; 256] = [
     R,
     R,
     R,
+    R, // 0x818 TMR, to 0x81F
     R,
     R,
     R,
@@ -47,9 +46,7 @@ const KINDS: [u8; 256] = [
     R,
     R,
     R,
-    R,
-    // 0x820
-    R,
+    R, // 0x820 P, to 0x827
     R,
     R,
     R,
@@ -65,8 +62,7 @@ const KINDS: [u8; 256] = [
     N,
     N,
     N,
-    // 0x830
-    B,
+    B, // 0x830 ICR
     N,
     N,
     N,
@@ -81,8 +77,8 @@ const KINDS: [u8; 256] = [
     N,
     N,
     N,
-    W,
-    // 0x840
+    W, // 0x83F self-IPI
+    N, // 0x840
     N,
     N,
     N,
@@ -98,8 +94,8 @@ const KINDS: [u8; 256] = [
     N,
     N,
     N,
+    N, // 0x850
     N,
-    // 0x850
     N,
     N,
     N,
@@ -114,9 +110,9 @@ const KINDS: [u8; 256] = [
     N,
     N,
     N,
+    N, // 0x860
     N,
     N,
-    // 0x860
     N,
     N,
     N,
@@ -130,10 +126,10 @@ const KINDS: [u8; 256] = [
     N,
     N,
     N,
+    N, // 0x870
     N,
     N,
     N,
-    // 0x870
     N,
     N,
     N,
@@ -146,11 +142,11 @@ const KINDS: [u8; 256] = [
     N,
     N,
     N,
+    N, // 0x880
     N,
     N,
     N,
     N,
-    // 0x880
     N,
     N,
     N,
@@ -162,12 +158,12 @@ const KINDS: [u8; 256] = [
     N,
     N,
     N,
+    N, // 0x890
     N,
     N,
     N,
     N,
     N,
-    // 0x890
     N,
     N,
     N,
@@ -178,13 +174,13 @@ const KINDS: [u8; 256] = [
     N,
     N,
     N,
+    N, // 0x8A0
     N,
     N,
     N,
     N,
     N,
     N,
-    // 0x8A0
     N,
     N,
     N,
@@ -194,6 +190,7 @@ const KINDS: [u8; 256] = [
     N,
     N,
     N,
+    N, // 0x8B0
     N,
     N,
     N,
@@ -201,7 +198,6 @@ const KINDS: [u8; 256] = [
     N,
     N,
     N,
-    // 0x8B0
     N,
     N,
     N,
@@ -210,6 +206,7 @@ const KINDS: [u8; 256] = [
     N,
     N,
     N,
+    N, // 0x8C0
     N,
     N,
     N,
@@ -218,7 +215,6 @@ const KINDS: [u8; 256] = [
     N,
     N,
     N,
-    // 0x8C0
     N,
     N,
     N,
@@ -226,6 +222,7 @@ const KINDS: [u8; 256] = [
     N,
     N,
     N,
+    N, // 0x8D0
     N,
     N,
     N,
@@ -235,13 +232,13 @@ const KINDS: [u8; 256] = [
     N,
     N,
     N,
-    // 0x8D0
     N,
     N,
     N,
     N,
     N,
     N,
+    N, // 0x8E0
     N,
     N,
     N,
@@ -252,25 +249,12 @@ const KINDS: [u8; 256] = [
     N,
     N,
     N,
-    // 0x8E0
     N,
     N,
     N,
     N,
     N,
-    N,
-    N,
-    N,
-    N,
-    N,
-    N,
-    N,
-    N,
-    N,
-    N,
-    N,
-    // 0x8F0
-    N,
+    N, // 0x8F0
     N,
     N,
     N,

@@ -1,0 +1,27 @@
+-- `doorbell::handback::highest_or_0` meets its contract, by what is found. Assumes nothing.
+use mathlib.Core.Path.{_≡_, sym, ap, _∙_}
+use mathlib.Core.Option.{Option·getD, Option}
+use Prim.Native.Nat.{ℕ}
+use Rattle.vector_set.specs.Sets.{vectorOf}
+use borrow.Author.Needs.{needs}
+use Rattle.doorbell.proofs.handback.highest_or_0.Statement.{statement}
+use Rattle.doorbell.proofs.handback.highest_or_0.Tie as tie
+
+highest-of-requires : tie.Need-highest-of-requires
+highest-of-requires c κs = search needs
+
+enum-known-v : tie.Need-enum-known-v
+enum-known-v c = search needs
+
+enum-told : tie.Need-enum-told
+enum-told c = search needs
+
+returns : tie.Need-returns
+returns c = ap (λ (o : Option ℕ). Option·getD o 0) (ap vectorOf (sym (c .before .v .given .1)) ∙ c .before .before .before .highest-of .ensures)
+
+returns-2 : tie.Need-returns-2
+returns-2 c = ap (λ (o : Option ℕ). Option·getD o 0) (ap vectorOf (sym (c .enum-told .given .1)) ∙ c .before .before .highest-of .ensures)
+
+pub highest-or-0-spec : {M : Type 1} → statement M
+highest-or-0-spec =
+    tie.close (tie.spec highest-of-requires enum-known-v enum-told returns returns-2)

@@ -71,7 +71,7 @@ serving-bytes s t =
     (record {
       long = m .long;
       small = m .small;
-      bit = λ j l b r. m .bit j l b r ∙ edge-has s t (8 * j + b) (omega arith)
+      bit = λ j l b r. m .bit j l b r ∙ edge-has s t (8 * j + b) (omega arith);
     })
 
 -- ---- the descriptor of what is pending
@@ -124,9 +124,12 @@ module _ (irr level : List ℕ) (nmi : Bool) where
   byte-j : (j b : ℕ) → 1 < j → j < 32 → b < 8 → has edge (8 * j + b) ≡ handedBit irr level nmi (8 * j + b)
   unfolding handedBit
   byte-j j b h l r =
-      rw
-      (lt-leb (8 * j + b) 7 (omega arith), ne-eqb (8 * j + b) 8 (λ (q : 8 * j + b ≡ 8). omega arith),
-      ne-eqb (8 * j + b) 10 (λ (q : 8 * j + b ≡ 10). omega arith), ne-eqb (8 * j + b) 14 (λ (q : 8 * j + b ≡ 14). omega arith))
+      rw (
+        lt-leb (8 * j + b) 7 (omega arith),
+        ne-eqb (8 * j + b) 8 (λ (q : 8 * j + b ≡ 8). omega arith),
+        ne-eqb (8 * j + b) 10 (λ (q : 8 * j + b ≡ 10). omega arith),
+        ne-eqb (8 * j + b) 14 (λ (q : 8 * j + b ≡ 14). omega arith),
+      )
       (edge-has irr level (8 * j + b) (omega arith))
 
   abbrev stored : List ℕ
@@ -142,16 +145,19 @@ module _ (irr level : List ℕ) (nmi : Bool) where
       let m = made (has edge) 32 in
       ⊎-elim
       (λ (h : j < 1). let e : j ≡ 0 = omega arith in
-      rw
-      (e, getD-set-other (set (bytesFrom (has edge) 0 32) 0 top) 1 0 flags 0 (λ (q : 0 ≡ 1). omega arith),
-      getD-set-same (bytesFrom (has edge) 0 32) 0 top 0 (omega (arith, m .long)))
+      rw (
+        e,
+        getD-set-other (set (bytesFrom (has edge) 0 32) 0 top) 1 0 flags 0 (λ (q : 0 ≡ 1). omega arith),
+        getD-set-same (bytesFrom (has edge) 0 32) 0 top 0 (omega (arith, m .long)),
+      )
       (record { small = highest-small level; bit = byte-0 }))
       (⊎-elim
       (λ (e : j ≡ 1). rw (e, getD-set-same (set (bytesFrom (has edge) 0 32) 0 top) 1 flags 0 (simp length-set (omega (arith, m .long))))
       (record { small = omega (arith, one-le nmi, one-le (not (isEmpty level)), one-le (not (isEmpty edge))); bit = byte-1 }))
-      (λ (h : 1 < j). rw
-      (getD-set-other (set (bytesFrom (has edge) 0 32) 0 top) 1 j flags 0 (λ (q : j ≡ 1). omega arith),
-      getD-set-other (bytesFrom (has edge) 0 32) 0 j top 0 (λ (q : j ≡ 0). omega arith))
+      (λ (h : 1 < j). rw (
+        getD-set-other (set (bytesFrom (has edge) 0 32) 0 top) 1 j flags 0 (λ (q : j ≡ 1). omega arith),
+        getD-set-other (bytesFrom (has edge) 0 32) 0 j top 0 (λ (q : j ≡ 0). omega arith),
+      )
       (record { small = m .small j l; bit = λ b r. m .bit j l b r ∙ byte-j j b h l r })))
       (place j 1)
 
@@ -161,7 +167,7 @@ module _ (irr level : List ℕ) (nmi : Bool) where
       (record {
         long = simp length-set (bytesFrom-length (has edge) 0 32);
         small = λ j l. byte j l .small;
-        bit = λ j l. byte j l .bit
+        bit = λ j l. byte j l .bit;
       })
 
 -- ---- two halves written one after the other, and the part back in the page

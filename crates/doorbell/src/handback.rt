@@ -58,12 +58,25 @@ fn write_pending(d: &mut [u8], irr: [u32; 8], level: [u32; 8], nmi: bool)
     ensures { λ _. ⌜ now (d .exit) ≡ bytesFrom (handedBit irr level nmi) 0 32 ⌝ }
 {
     let edge = vector_set::from_31(vector_set::difference(irr, level));
+    let vector = highest_or_0(level);
+    let flags = flags(
+        nmi,
+        !vector_set::is_empty(level),
+        !vector_set::is_empty(edge),
+    );
     write_set(d, edge);
-    d[0] = highest_or_0(level);
-    d[1] = flags(nmi, !vector_set::is_empty(level), !vector_set::is_empty(edge));
+    d[0] = vector;
+    d[1] = flags;
 }
 
-fn write_handed(part: &mut [u8], irr: [u32; 8], irr_level: [u32; 8], nmi: bool, isr: [u32; 8], isr_level: [u32; 8])
+fn write_handed(
+    part: &mut [u8],
+    irr: [u32; 8],
+    irr_level: [u32; 8],
+    nmi: bool,
+    isr: [u32; 8],
+    isr_level: [u32; 8],
+)
     requires { ⌜ length (now part) ≡ 64 ⌝ }
     ensures { λ _. ⌜ now (part .exit) ≡ handedBytes irr «irr_level» nmi isr «isr_level» ⌝ }
 {
@@ -73,7 +86,15 @@ fn write_handed(part: &mut [u8], irr: [u32; 8], irr_level: [u32; 8], nmi: bool, 
 }
 
 // Writes what a vCPU hands back into the page.
-pub fn hand_over(page: &mut [u8], vmpl: u32, irr: [u32; 8], irr_level: [u32; 8], nmi: bool, isr: [u32; 8], isr_level: [u32; 8])
+pub fn hand_over(
+    page: &mut [u8],
+    vmpl: u32,
+    irr: [u32; 8],
+    irr_level: [u32; 8],
+    nmi: bool,
+    isr: [u32; 8],
+    isr_level: [u32; 8],
+)
     ensures { λ _. ⌜ now (page .exit) ≡ handedPage vmpl (handedBytes irr «irr_level» nmi isr «isr_level») (now (page .entry)) ⌝ }
 {
     if page.len() < 256 {

@@ -1,53 +1,45 @@
+-- `doorbell::handback::hand_over` meets its contract. Assumes nothing.
+use mathlib.Core.Path.{_≡_, sym, ap, _∙_}
+use mathlib.Core.List.{List}
+use Prim.Native.Nat.{ℕ, _+_, _*_, _-_}
+use native.Mathlib.Omega.{arith}
+use Rattle.model.specs.Doorbell.{handedBytes, written}
+use Rattle.doorbell.specs.Served.{served, short, too-low, too-high}
+use Rattle.doorbell.specs.Handed.{handed-page, unhanded, part-back}
 use borrow.Author.Needs.{needs}
 use Rattle.doorbell.proofs.handback.hand_over.Statement.{statement}
 use Rattle.doorbell.proofs.handback.hand_over.Tie as tie
-use Rattle.doorbell.proofs.handback.hand_over.Reads as reads
-use Rattle.doorbell.proofs.handback.hand_over.Lts as lts
-use Rattle.doorbell.proofs.handback.write_handed.Reads as write-handed-reads
 
--- src/handback.rt:80:9
 returns : tie.Need-returns
-returns c = ?
+returns c =
+    let start = c .before .before in
+    unhanded (start .args .vmpl)
+    (handedBytes (start .args .irr) (start .args .irr-level) (start .args .nmi) (start .args .isr) (start .args .isr-level)) (start .args .page .now)
+    (short (start .args .vmpl) (start .args .page .now) (c .if1 .taken))
 
--- src/handback.rt:83:9
 returns-2 : tie.Need-returns-2
-returns-2 c = ?
+returns-2 c =
+    let start = c .before .before .before in
+    unhanded (start .args .vmpl)
+    (handedBytes (start .args .irr) (start .args .irr-level) (start .args .nmi) (start .args .isr) (start .args .isr-level)) (start .args .page .now)
+    (too-low (start .args .vmpl) (start .args .page .now) (c .if2 .taken))
 
--- src/handback.rt:86:9
 returns-3 : tie.Need-returns-3
-returns-3 c = ?
+returns-3 c =
+    let start = c .before .before .before .before in
+    unhanded (start .args .vmpl)
+    (handedBytes (start .args .irr) (start .args .irr-level) (start .args .nmi) (start .args .isr) (start .args .isr-level)) (start .args .page .now)
+    (too-high (start .args .vmpl) (start .args .page .now) (c .if3 .taken))
 
--- src/handback.rt:88:13
-mul-a : tie.Need-mul-a
-mul-a c = search needs
-
--- src/handback.rt:89:13
-add-e : tie.Need-add-e
-add-e c = search needs
-
--- src/handback.rt:90:18
-sub-write-handed : tie.Need-sub-write-handed
-sub-write-handed c = search needs
-
--- src/handback.rt:90:18
-part-write-handed-start : tie.Need-part-write-handed-start
-part-write-handed-start c = search needs
-
--- src/handback.rt:90:18
-part-write-handed-end : tie.Need-part-write-handed-end
-part-write-handed-end c = search needs
-
--- src/handback.rt:90:5
-write-handed-requires : tie.Need-write-handed-requires
-write-handed-requires c κs = search needs
-
--- src/handback.rt:76:1
-same-length : tie.Need-same-length
-same-length c = search needs
-
--- src/handback.rt:76:1
 returns-4 : tie.Need-returns-4
-returns-4 c = ?
+returns-4 c =
+    let start = c .before .before .before .before .before .before .before .before in
+    let l = start .args .vmpl in
+    let p = start .args .page .now in
+    let k : 64 * l + 64 - 64 * l ≡ 64 = omega arith in
+    part-back l (c .before .before .write-handed .last .0) p k
+    ∙ ap (λ (ys : List ℕ). written l ys p) (c .before .before .write-handed .ensures)
+    ∙ sym (handed-page (start .args .vmpl) (handedBytes (start .args .irr) (start .args .irr-level) (start .args .nmi) (start .args .isr) (start .args .isr-level)) (start .args .page .now) (served l p (omega arith) (omega arith) (omega arith)))
 
 pub hand-over-spec : {M : Type 1} → statement M
 hand-over-spec =
@@ -56,11 +48,11 @@ hand-over-spec =
     returns
     returns-2
     returns-3
-    mul-a
-    add-e
-    sub-write-handed
-    part-write-handed-start
-    part-write-handed-end
-    write-handed-requires
-    same-length
+    (λ c. search needs)
+    (λ c. search needs)
+    (λ c. search needs)
+    (λ c. search needs)
+    (λ c. search needs)
+    (λ c κs. search needs)
+    (λ c. search needs)
     returns-4)

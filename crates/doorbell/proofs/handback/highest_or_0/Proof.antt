@@ -7,15 +7,6 @@ use borrow.Author.Needs.{needs}
 use Rattle.doorbell.proofs.handback.highest_or_0.Statement.{statement}
 use Rattle.doorbell.proofs.handback.highest_or_0.Tie as tie
 
-highest-of-requires : tie.Need-highest-of-requires
-highest-of-requires c κs = search needs
-
-enum-known-v : tie.Need-enum-known-v
-enum-known-v c = search needs
-
-enum-told : tie.Need-enum-told
-enum-told c = search needs
-
 returns : tie.Need-returns
 returns c = ap (λ (o : Option ℕ). Option·getD o 0) (ap vectorOf (sym (c .before .v .given .1)) ∙ c .before .before .before .highest-of .ensures)
 
@@ -24,4 +15,4 @@ returns-2 c = ap (λ (o : Option ℕ). Option·getD o 0) (ap vectorOf (sym (c .e
 
 pub highest-or-0-spec : {M : Type 1} → statement M
 highest-or-0-spec =
-    tie.close (tie.spec highest-of-requires enum-known-v enum-told returns returns-2)
+    tie.close (tie.spec (λ c κs. search needs) (λ c. search needs) (λ c. search needs) returns returns-2)

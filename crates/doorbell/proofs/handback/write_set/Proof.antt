@@ -21,29 +21,16 @@ abbrev μ-loop : tie.MeasureT-loop
 loop-holds : tie.Need-loop-holds Inv-loop μ-loop
 loop-holds c = (omega arith, omega arith, λ i h. omega arith)
 
-byte-of-requires : tie.Need-byte-of-requires Inv-loop μ-loop
-byte-of-requires c κs = omega arith
-
-slice-write-d : tie.Need-slice-write-d Inv-loop μ-loop
-slice-write-d c = omega arith
-
-add-j : tie.Need-add-j Inv-loop μ-loop
-add-j c = omega arith
-
-loop-less : tie.Need-loop-less Inv-loop μ-loop
-loop-less c = omega arith
-
 loop-again : tie.Need-loop-again Inv-loop μ-loop
 loop-again c =
     let s = c .before .before .before .before .args .s in
     let d = c .before .before .loop .d in
-    let j = c .before .before .loop .j in
-    (simp length-set (omega arith), omega arith,
-    subst (λ (x : ℕ). (i : ℕ) → i < j + 1 → getD (set d j x) i 0 ≡ bits (has s) (8 * i) 8) (sym (c .byte-of .ensures))
-    (filled d (λ i. bits (has s) (8 * i) 8) j (omega arith) (c .before .before .loop .inv .2)))
-
-same-length : tie.Need-same-length Inv-loop μ-loop
-same-length c = omega arith
+    let j = c .before .before .loop .j in (
+      simp length-set (omega arith),
+      omega arith,
+      subst (λ (x : ℕ). (i : ℕ) → i < j + 1 → getD (set d j x) i 0 ≡ bits (has s) (8 * i) 8) (sym (c .byte-of .ensures))
+          (filled d (λ i. bits (has s) (8 * i) 8) j (omega arith) (c .before .before .loop .inv .2)),
+    )
 
 returns : tie.Need-returns Inv-loop μ-loop
 returns c =
@@ -60,10 +47,10 @@ write-set-spec =
     Inv-loop
     μ-loop
     loop-holds
-    byte-of-requires
-    slice-write-d
-    add-j
-    loop-less
+    (λ c κs. omega arith)
+    (λ c. omega arith)
+    (λ c. omega arith)
+    (λ c. omega arith)
     loop-again
-    same-length
+    (λ c. omega arith)
     returns)

@@ -1,23 +1,23 @@
 -- The page after a hand-back, and the laws by which the bytes that code writes are the definition's.
 -- Assumes nothing.
-use mathlib.Core.Path.{_≡_, refl, sym, ap, _∙_, subst}
+use mathlib.Core.Path.{_≡_, refl, sym, ap, _∙_}
 use mathlib.Core.Bool.{Bool, true, false, cond, not, _&&_, _||_, and-true, or-false, and-assoc}
-use mathlib.Core.List.{List, [], _∷_, _++_, append-assoc, append-nil}
+use mathlib.Core.List.{List, [], _++_, append-assoc, append-nil}
 use mathlib.Core.Logic.{⊎-elim}
 use mathlib.Core.Option.{Option, none, some, Option·getD}
-use Prim.Native.Nat.{ℕ, zero, suc, _+_, _*_, _-_, _/_, _%_, _^_, _<_, _≤_}
+use Prim.Native.Nat.{ℕ, _+_, _*_, _/_, _%_, _^_, _<_}
 use native.Mathlib.Omega.{arith}
-use lib.Dec.{leb, ltb, eqb}
+use lib.Dec.{leb, eqb}
 use lib.ListN.{length, getD, take, drop, set, length-set, drop-of-length-le, length-drop}
-use lib.Seq.{ext-getD, getD-set-same, getD-set-other, take-at, drop-at, drop-drop}
-use lib.Bits.{bitAnd, and-mask}
+use lib.Seq.{getD-set-same, getD-set-other, take-at, drop-at, drop-drop}
+use lib.Bits.{and-mask}
 use borrow.Author.Tests.{lt-leb, le-leb, ne-eqb}
 use Rattle.vector_set.specs.Bits.{one, bitAt, bits}
-use Rattle.vector_set.specs.BitLaws.{bit-and, bit-shr, bits-bit, bits-lt, bits-unique, one-le}
+use Rattle.vector_set.specs.BitLaws.{bit-and, bit-shr, bits-unique, one-le}
 use Rattle.vector_set.specs.Sets.{has, collect, difference, from, highest, isEmpty}
-use Rattle.vector_set.specs.Laws.{has-collect, has-difference, has-from, collect-ext, highest-has}
-use Rattle.model.specs.Doorbell.{bytesFrom, isVector, handedBit, servingBit, handedBytes, written}
-use Rattle.doorbell.specs.Bytes.{place, bytesFrom-at, bytesFrom-length, Made, made, is-made}
+use Rattle.vector_set.specs.Laws.{has-difference, has-from, collect-ext, highest-has}
+use Rattle.model.specs.Doorbell.{bytesFrom, isVector, handedBit, servingBit, written}
+use Rattle.doorbell.specs.Bytes.{place, bytesFrom-length, made, is-made}
 use Rattle.doorbell.specs.Clear.{each8}
 use Rattle.doorbell.specs.Served.{serves}
 

@@ -1,5 +1,5 @@
 -- `doorbell::handback::highest_or_0` meets its contract, by what is found. Assumes nothing.
-use mathlib.Core.Path.{_≡_, sym, ap, _∙_}
+use mathlib.Core.Path.{sym, ap, _∙_}
 use mathlib.Core.Option.{Option·getD, Option}
 use Prim.Native.Nat.{ℕ}
 use Rattle.vector_set.specs.Sets.{vectorOf}

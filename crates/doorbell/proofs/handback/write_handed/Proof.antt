@@ -1,7 +1,5 @@
 -- `doorbell::handback::write_handed` meets its contract: two halves of 32 bytes. Assumes nothing.
-use mathlib.Core.Path.{_≡_, ap, _∙_}
-use mathlib.Core.List.{_++_}
-use Prim.Native.Nat.{ℕ}
+use mathlib.Core.Path.{ap, _∙_}
 use lib.ListN.{length}
 use Rattle.model.specs.Doorbell.{handedBytes, handedBit}
 use Rattle.doorbell.specs.Bytes.{bytesFrom-length}

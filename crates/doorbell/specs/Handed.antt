@@ -177,6 +177,8 @@ halves p a b e f =
     let n : drop 32 (drop 32 p) ≡ [] = drop-of-length-le (drop 32 p) {i = 32} (rw (length-drop 32 p) (omega arith)) in
     rw (take-at a (drop 32 p) 32 f, drop-at a (drop 32 p) 32 f, n, append-nil b)
 
-pub part-back : (l : ℕ) (ys p : List ℕ) {k : ℕ} → k ≡ 64 → take (64 * l) p ++ (ys ++ drop k (drop (64 * l) p)) ≡ written l ys p
+pub part-back : (l : ℕ) (ys bytes p : List ℕ) {k : ℕ} → k ≡ 64 → ys ≡ bytes → serves l p ≡ true
+    → take (64 * l) p ++ (ys ++ drop k (drop (64 * l) p)) ≡ handedPage l bytes p
 unfolding written
-part-back l ys p e = rw (e, drop-drop 64 (64 * l) p) (sym (append-assoc (take (64 * l) p) ys (drop (64 * l + 64) p)))
+part-back l ys bytes p e y s =
+    rw (e, y, drop-drop 64 (64 * l) p) (sym (append-assoc (take (64 * l) p) bytes (drop (64 * l + 64) p))) ∙ sym (handed-page l bytes p s)

@@ -1,11 +1,10 @@
 -- `doorbell::handback::hand_over` meets its contract. Assumes nothing.
-use mathlib.Core.Path.{_≡_, sym, ap, _∙_}
-use mathlib.Core.List.{List}
-use Prim.Native.Nat.{ℕ, _+_, _*_, _-_}
+use mathlib.Core.Path.{_≡_}
+use Prim.Native.Nat.{_+_, _*_, _-_}
 use native.Mathlib.Omega.{arith}
-use Rattle.model.specs.Doorbell.{handedBytes, written}
+use Rattle.model.specs.Doorbell.{handedBytes}
 use Rattle.doorbell.specs.Served.{served, short, too-low, too-high}
-use Rattle.doorbell.specs.Handed.{handed-page, unhanded, part-back}
+use Rattle.doorbell.specs.Handed.{unhanded, part-back}
 use borrow.Author.Needs.{needs}
 use Rattle.doorbell.proofs.handback.hand_over.Statement.{statement}
 use Rattle.doorbell.proofs.handback.hand_over.Tie as tie
@@ -37,9 +36,9 @@ returns-4 c =
     let l = start .args .vmpl in
     let p = start .args .page .now in
     let k : 64 * l + 64 - 64 * l ≡ 64 = omega arith in
-    part-back l (c .before .before .write-handed .last .0) p k
-    ∙ ap (λ (ys : List ℕ). written l ys p) (c .before .before .write-handed .ensures)
-    ∙ sym (handed-page (start .args .vmpl) (handedBytes (start .args .irr) (start .args .irr-level) (start .args .nmi) (start .args .isr) (start .args .isr-level)) (start .args .page .now) (served l p (omega arith) (omega arith) (omega arith)))
+    part-back l (c .before .before .write-handed .last .0)
+    (handedBytes (start .args .irr) (start .args .irr-level) (start .args .nmi) (start .args .isr) (start .args .isr-level)) p k
+    (c .before .before .write-handed .ensures) (served l p (omega arith) (omega arith) (omega arith))
 
 pub hand-over-spec : {M : Type 1} → statement M
 hand-over-spec =

@@ -3,3 +3,4 @@ pub mod Bytes
 pub mod Clear
 pub mod Notice
 pub mod Served
+pub mod Handed

@@ -1,13 +1,13 @@
 -- The page after a notice as code leaves it: the descriptor's part replaced by what is left of it, and the announcing bit masked out.
 -- Assumes nothing.
 use mathlib.Core.Path.{_≡_, refl, sym, ap, _∙_, subst}
-use mathlib.Core.Bool.{Bool, true, false, not, _&&_, _||_, or-false}
+use mathlib.Core.Bool.{Bool, true, false, not, _&&_, or-false}
 use mathlib.Core.List.{List}
 use mathlib.Core.Logic.{⊎-elim}
-use Prim.Native.Nat.{ℕ, zero, suc, _+_, _*_, _-_, _/_, _%_, _^_, _<_, _≤_}
+use Prim.Native.Nat.{ℕ, _+_, _*_, _-_, _/_, _%_, _^_, _<_, _≤_}
 use native.Mathlib.Omega.{arith}
 use native.Mathlib.Nat.{one-mul, mod-eq-of-lt}
-use lib.Dec.{leb, ltb, eqb}
+use lib.Dec.{eqb}
 use lib.ListN.{length, getD, take, drop, set, length-set, length-drop}
 use lib.Seq.{getD-set-same, getD-set-other, getD-take, getD-drop, length-take-le}
 use lib.Bits.{bitAnd}
@@ -15,7 +15,7 @@ use lib.Pow.{pow-lt}
 use borrow.Author.Tests.{lt-leb, le-leb, lt-ltb, le-ltb, eq-eqb, ne-eqb, eqb-true, eqb-false}
 use Rattle.vector_set.specs.Bits.{bitAt}
 use Rattle.vector_set.specs.BitLaws.{bit-not, bit-pow}
-use Rattle.model.specs.Doorbell.{bitOf, announces, descriptor, clearsBit, clears}
+use Rattle.model.specs.Doorbell.{bitOf, announces, clearsBit, clears}
 use Rattle.doorbell.specs.Bytes.{split, place, spliced, spliced-length, spliced-before, spliced-in, spliced-after}
 use Rattle.doorbell.specs.Clear.{clearing, Cleared, cleared-at, clearing-length, is-clearing, keeps, masks}
 

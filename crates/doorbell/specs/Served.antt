@@ -1,7 +1,7 @@
 -- What taking a notice answers where the page is short or the VMPL is not 1 to 3: nothing is admitted, and the page stays as it is.
 -- No accepted event comes there: document 01 refuses such events before a page is read.
 -- Assumes nothing.
-use mathlib.Core.Path.{_≡_, refl, sym, ap, _∙_}
+use mathlib.Core.Path.{_≡_}
 use mathlib.Core.Bool.{Bool, true, false, cond, _&&_, and-false}
 use mathlib.Core.List.{List}
 use Prim.Native.Nat.{ℕ, _<_, _≤_}

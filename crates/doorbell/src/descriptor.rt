@@ -5,7 +5,7 @@ ghost use Prim.Native.Nat.{_+_, _*_, _≤_, _<_};
 ghost use lib.ListN.{length, getD};
 ghost use Rattle.vector_set.specs.Bits.{bits};
 ghost use Rattle.vector_set.specs.Sets.{collect, vectorOf};
-ghost use Rattle.model.specs.Doorbell.{bitOf, manyBit, levelBit, partOf, admitsNmi, admitsLevel, admitsEdge, admits};
+ghost use Rattle.model.specs.Doorbell.{bitOf, manyBit, partOf, admitsNmi, admitsLevel, admitsEdge, admits};
 use model::Admitted;
 use vector_set::Found;
 

@@ -9,6 +9,7 @@ use vector_set::Found;
 
 mod clear;
 mod descriptor;
+pub mod handback;
 
 // The byte of the page with the announcing bits: bit L - 1 for VMPL L.
 const ANNOUNCEMENTS: usize = 3;

@@ -1,5 +1,5 @@
 -- `doorbell::descriptor::nmi_of` meets its contract. Assumes nothing.
-use mathlib.Core.Path.{_≡_, sym, _∙_}
+use mathlib.Core.Path.{_≡_}
 use mathlib.Core.Bool.{true, false}
 use lib.ListN.{getD}
 use Rattle.model.specs.Doorbell.{bitOf, admitsNmi}

@@ -1,7 +1,5 @@
 -- `doorbell::descriptor::read_descriptor` meets its contract: its three parts are the definition's. Assumes nothing.
-use mathlib.Core.Path.{_≡_}
 use lib.ListN.{getD}
-use native.Mathlib.Omega.{arith}
 use Rattle.model.specs.Doorbell.{bitOf}
 use Rattle.doorbell.specs.Bytes.{mask-clear, mask-set}
 use Rattle.doorbell.specs.Admits.{admits-is}

@@ -1,5 +1,4 @@
 -- `doorbell::descriptor::word_of` meets its contract: a word is four bytes. Assumes nothing.
-use mathlib.Core.Path.{_≡_}
 use native.Mathlib.Omega.{arith}
 use Rattle.doorbell.specs.Bytes.{word-bytes}
 use borrow.Author.Needs.{needs}

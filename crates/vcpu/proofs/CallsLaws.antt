@@ -2,22 +2,17 @@
 -- Assumes nothing.
 use mathlib.Core.Path.{_≡_, refl, sym, ap, _∙_}
 use mathlib.Core.Bool.{Bool, false, cond}
-use mathlib.Core.List.{List, [], _∷_}
+use mathlib.Core.List.{List}
 use mathlib.Core.Option.{Option, none, some}
 use Prim.Native.Nat.{ℕ}
-use mathlib.Core.Logic.{inl, inr}
-use types.Run.{OneOf}
-use denote.Enum.Declared.{tagOf}
-use Rattle.model.proofs.Phase as phase
 use Rattle.vector_set.specs.declared.Found.{Found}
 use Rattle.vector_set.specs.declared.Found.the-variants.{Vector, Nothing}
-use Rattle.vector_set.specs.Laws.{clash}
 use Rattle.vector_set.specs.Sets.{has, remove, highest, vectorOf}
 use Rattle.model.specs.declared.Local.{Local}
 use Rattle.model.specs.declared.Local.the-variants as local
 use Rattle.model.specs.declared.Outcome.the-variants as outcome
 use Rattle.model.specs.declared.Phase.{Phase}
-use Rattle.model.specs.declared.Phase.the-variants.{Active, Leaving, Left}
+use Rattle.model.specs.declared.Phase.the-variants.{Active}
 use Rattle.model.specs.declared.Refusal.the-variants.{NotActive}
 use Rattle.model.specs.declared.Request.{Request}
 use Rattle.model.specs.declared.Request.the-variants as request
@@ -83,13 +78,6 @@ module _ (i k op ecx rdx : ℕ) (v : Vcpu) where
       → calledOut r ≡ callOn (vcpuVerdict k v (call i op ecx rdx)) (requestOf op ecx rdx) i k v
   unfolding vcpuVerdict callOn
   not-asked r inactive gave = rw inactive (ap calledOut gave)
-
--- a phase that is none of the first
-pub inactive : (p : Phase) → OneOf (1 ∷ 2 ∷ []) (tagOf phase.the-type p) → isActive p ≡ false
-inactive Active (inl e) = clash (cc)
-inactive Active (inr e) = clash (cc)
-inactive Leaving e = refl
-inactive Left e = refl
 
 -- the EOI where the search found o
 ends : Option ℕ → Vcpu → Ended

@@ -4,7 +4,8 @@ use mathlib.Core.Path.{ap}
 use borrow.Author.Needs.{needs}
 use Rattle.model.specs.declared.Request.the-variants as request
 use Rattle.vcpu.specs.Records.{callOn, calledOut}
-use Rattle.vcpu.proofs.CallsLaws.{inactive, asked, not-asked}
+use Rattle.vcpu.proofs.CallsLaws.{asked, not-asked}
+use Rattle.vcpu.proofs.Told.{not-active}
 use Rattle.vcpu.proofs.calls.call_vcpu.Statement.{statement}
 use Rattle.vcpu.proofs.calls.call_vcpu.Tie as tie
 
@@ -12,7 +13,7 @@ returns : tie.Need-returns
 returns c =
     let a = c .before .before .args in
     not-asked (a .id) (a .registrations) (a .call) (a .ecx) (a .rdx) (a .v) (c .refused .result)
-    (inactive (a .v .phase) (c .before .match .keys2)) (c .refused .ensures)
+    (not-active (a .v .phase) (c .before .match .keys2)) (c .refused .ensures)
 
 returns-2 : tie.Need-returns-2
 returns-2 c =

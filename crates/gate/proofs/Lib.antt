@@ -1,0 +1,2 @@
+pub mod LeavingTests
+pub mod Steps

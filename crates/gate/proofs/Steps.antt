@@ -1,0 +1,191 @@
+-- The events' steps of a module from what they make of one record.
+-- Assumes nothing.
+use mathlib.Core.Path.{_≡_, refl, sym, ap, ap₂, _∙_}
+use mathlib.Core.Bool.{Bool, true, false, cond, _&&_}
+use mathlib.Core.List.{List, [], _∷_}
+use Prim.Native.Nat.{ℕ, zero, suc, _+_, _<_, _≤_}
+use native.Mathlib.Nat.{le-of-suc-le-suc, not-suc-le-zero}
+use native.Mathlib.Numerals.{add-one}
+use native.Mathlib.Omega.{arith}
+use lib.Dec.{leb}
+use lib.ListN.{length, getD, length-map}
+use mir.Val.{Val}
+use denote.Laws.{Is}
+use borrow.Author.Tests.{leb-true}
+use Rattle.model.proofs.Module as modules
+use Rattle.model.specs.declared.Refusal.the-variants.{NotActive, NotLeaving, ShortPage}
+use Rattle.model.specs.declared.Vcpu.{Vcpu}
+use Rattle.model.specs.declared.Module.{Module}
+use Rattle.model.specs.declared.Stepped.{Stepped}
+use Rattle.model.specs.State.{isActive, isLeaving, size, vcpuAt, withVcpu, withRegistrations}
+use Rattle.model.specs.Doorbell.{longEnough, Part, admitted, noticedPage, written}
+use Rattle.model.specs.Codes.{resultOf}
+use Rattle.model.specs.Requests.{requestOf}
+use Rattle.model.specs.Events.{Event, notice, call, entry, nonDelivery, handBack, offer, accept, need, vcpuVerdict, Out, handed, step, outOf}
+use Rattle.doorbell.specs.Served.{serves, takenPart, takenPage, served, taken-part, taken-page}
+use Rattle.doorbell.specs.Handed.{handedPage, handed-page}
+use Rattle.vcpu.specs.declared.VcpuStepped.{VcpuStepped}
+use Rattle.vcpu.specs.declared.VcpuEntered.{VcpuEntered}
+use Rattle.vcpu.specs.declared.VcpuCalled.{VcpuCalled}
+use Rattle.vcpu.specs.declared.VcpuSent.{VcpuSent}
+use Rattle.vcpu.specs.Records.{servedCount, VcpuOut, noticeOn, entryOn, nonDeliveryOn, handBackOn, pageOn, CallOut, callOn, sendOn, Sending, sendAt, sendBelow, steppedOut, enteredVcpu, calledOut}
+use Rattle.vcpu.specs.Lift.{size-le, onRecord, called, delivered, callStep, lift-notice, lift-entry, lift-nonDelivery, lift-handBack, lift-local, lift-send}
+
+-- ---- the count
+-- the count by which the functions test a vCPU's number
+pub size-is : (m : Module) → servedCount (m .n) (m .vmpl) ≡ size m
+unfolding servedCount size
+size-is m = refl
+
+-- a vCPU that the test lets through or not
+pub known : (m : Module) {i n : ℕ} → n ≡ servedCount (m .n) (m .vmpl) → i < n → i < size m
+known m e h = omega (arith, e ∙ size-is m)
+
+pub not-known : (m : Module) {i n : ℕ} → n ≡ servedCount (m .n) (m .vmpl) → n ≤ i → size m ≤ i
+not-known m e h = omega (arith, e ∙ size-is m)
+
+pub below-32 : (m : Module) {i : ℕ} → i < size m → i < 32
+below-32 m h = omega (arith, size-le m)
+
+-- a module with vCPUs has a VMPL of 1 to 3
+vmpl-in : (m : Module) (i : ℕ) → i < size m → (1 ≤ m .vmpl) × (m .vmpl ≤ 3)
+unfolding size
+vmpl-in m i = pick (leb (m .n) 32) (leb 1 (m .vmpl)) (leb (m .vmpl) 3) refl refl
+  where
+    pick : (a b c : Bool) → leb 1 (m .vmpl) ≡ b → leb (m .vmpl) 3 ≡ c → i < cond (a && b && c) (m .n) 0 → (1 ≤ m .vmpl) × (m .vmpl ≤ 3)
+    pick true true true e f h = (leb-true 1 (m .vmpl) e, leb-true (m .vmpl) 3 f)
+    pick true true false e f h = absurd (not-suc-le-zero h)
+    pick true false c e f h = absurd (not-suc-le-zero h)
+    pick false b c e f h = absurd (not-suc-le-zero h)
+
+-- ---- a record read from the array
+-- a module of a parameter (`c .good`) has 32 records
+pub records-32 : (m : Module) (vs : List Val) → Is modules.the-row m vs → length (m .vcpus) ≡ 32
+records-32 m vs p = sym (length-map (m .vcpus) _) ∙ p .1 .1 .1 .1 .1 .0 .1 .0 .1
+
+-- an element that is there does not depend on the default
+getD-any : (l : List Vcpu) (i : ℕ) (d e : Vcpu) → i < length l → getD l i d ≡ getD l i e
+getD-any [] i d e h = absurd (not-suc-le-zero h)
+getD-any (v ∷ l) zero d e h = refl
+getD-any (v ∷ l) (suc i) d e h = getD-any l i d e (le-of-suc-le-suc h)
+
+pub record-is : (m : Module) (i : ℕ) (d : Vcpu) → i < 32 → length (m .vcpus) ≡ 32 → getD (m .vcpus) i d ≡ vcpuAt m i
+unfolding vcpuAt
+record-is m i d h l = getD-any (m .vcpus) i d _ (omega arith)
+
+-- ---- an IPI
+-- the vCPUs below k + 1, from those below k
+pub one-more : (i x k b : ℕ) (m a : Module) (v : Vcpu) (s : VcpuSent) → v ≡ vcpuAt a k → s ≡ sendOn i k x b v
+    → _≡_ {A = Sending} (record { mask = b; after = a }) (sendBelow i x m k)
+    → _≡_ {A = Sending} (record { mask = s .mask; after = withVcpu a k (s .vcpu) }) (sendBelow i x m (k + 1))
+unfolding sendBelow
+one-more i x k b m a v s p q e =
+    rw add-one
+    (ap (λ (t : VcpuSent). record { mask = t .mask; after = withVcpu a k (t .vcpu) }) (q ∙ ap (sendOn i k x b) p) ∙ ap (sendAt i x k) e)
+
+-- ---- what taking a notice answers, at a VMPL of 1 to 3
+module _ (l : ℕ) (low : 1 ≤ l) (high : l ≤ 3) (v : Vcpu) (p : List ℕ) where
+  served-page : longEnough p ≡ true → serves l p ≡ true
+  served-page e = served l p (leb-true 256 (length p) e) low high
+
+  same-part : noticeOn (vcpuVerdict 0 v (notice 0 p)) (takenPart l (v .allowed) p) v ≡ noticeOn (vcpuVerdict 0 v (notice 0 p)) (admitted l (v .allowed) p) v
+  unfolding vcpuVerdict noticeOn
+  same-part = pick (isActive (v .phase)) (longEnough p) refl
+    where
+      pick : (a b : Bool) → longEnough p ≡ b
+          → noticeOn (need a NotActive (need b ShortPage accept)) (takenPart l (v .allowed) p) v
+          ≡ noticeOn (need a NotActive (need b ShortPage accept)) (admitted l (v .allowed) p) v
+      pick true true e = ap (λ (s : Part). noticeOn accept s v) (taken-part l (v .allowed) p (served-page e))
+      pick true false e = refl
+      pick false b e = refl
+
+  same-page : pageOn (vcpuVerdict 0 v (notice 0 p)) (takenPage l p) p ≡ pageOn (vcpuVerdict 0 v (notice 0 p)) (noticedPage l p) p
+  unfolding vcpuVerdict pageOn
+  same-page = pick (isActive (v .phase)) (longEnough p) refl
+    where
+      pick : (a b : Bool) → longEnough p ≡ b
+          → pageOn (need a NotActive (need b ShortPage accept)) (takenPage l p) p
+          ≡ pageOn (need a NotActive (need b ShortPage accept)) (noticedPage l p) p
+      pick true true e = taken-page l p (served-page e)
+      pick true false e = refl
+      pick false b e = refl
+
+  same-handed : (q : List ℕ) (iF sh : Bool)
+      → pageOn (vcpuVerdict 0 v (handBack 0 p iF sh)) (handedPage l q p) p ≡ pageOn (vcpuVerdict 0 v (handBack 0 p iF sh)) (written l q p) p
+  unfolding vcpuVerdict pageOn
+  same-handed q iF sh = pick (isLeaving (v .phase)) (longEnough p) refl
+    where
+      pick : (a b : Bool) → longEnough p ≡ b
+          → pageOn (need a NotLeaving (need b ShortPage accept)) (handedPage l q p) p
+          ≡ pageOn (need a NotLeaving (need b ShortPage accept)) (written l q p) p
+      pick true true e = handed-page l q p (served-page e)
+      pick true false e = refl
+      pick false b e = refl
+
+-- ---- the events, by what they make of the record v of the vCPU i
+module _ (m : Module) (i : ℕ) (h : i < size m) (v : Vcpu) (at : v ≡ vcpuAt m i) where
+  pub entered : (iF sh bl : Bool) (r : VcpuEntered)
+      → enteredVcpu r ≡ entryOn (vcpuVerdict 0 v (entry 0 iF sh bl)) (offer iF sh bl v) v
+      → onRecord m i (enteredVcpu r) [] ≡ step m (entry i iF sh bl)
+  entered iF sh bl r e =
+      ap (λ (o : VcpuOut). onRecord m i o [])
+      (e ∙ ap (λ (u : Vcpu). entryOn (vcpuVerdict 0 u (entry 0 iF sh bl)) (offer iF sh bl u) u) at)
+      ∙ sym (lift-entry m i h iF sh bl)
+
+  pub returned : (r : VcpuStepped) → steppedOut r ≡ nonDeliveryOn (vcpuVerdict 0 v (nonDelivery 0)) (v .flight) v
+      → onRecord m i (steppedOut r) [] ≡ step m (nonDelivery i)
+  returned r e =
+      ap (λ (o : VcpuOut). onRecord m i o [])
+      (e ∙ ap (λ (u : Vcpu). nonDeliveryOn (vcpuVerdict 0 u (nonDelivery 0)) (u .flight) u) at)
+      ∙ sym (lift-nonDelivery m i h)
+
+  pub taken : (p q : List ℕ) (r : VcpuStepped)
+      → steppedOut r ≡ noticeOn (vcpuVerdict 0 v (notice 0 p)) (takenPart (m .vmpl) (v .allowed) p) v
+      → q ≡ pageOn (vcpuVerdict 0 v (notice 0 p)) (takenPage (m .vmpl) p) p
+      → onRecord m i (steppedOut r) q ≡ step m (notice i p)
+  taken p q r e f =
+      let w = vmpl-in m i h in
+      ap₂ (λ (o : VcpuOut) (y : List ℕ). onRecord m i o y)
+      (e ∙ same-part (m .vmpl) (w .0) (w .1) v p
+      ∙ ap (λ (u : Vcpu). noticeOn (vcpuVerdict 0 u (notice 0 p)) (admitted (m .vmpl) (u .allowed) p) u) at)
+      (f ∙ same-page (m .vmpl) (w .0) (w .1) v p ∙ ap (λ (u : Vcpu). pageOn (vcpuVerdict 0 u (notice 0 p)) (noticedPage (m .vmpl) p) p) at)
+      ∙ sym (lift-notice m i h p)
+
+  pub handedBack : (p q : List ℕ) (iF sh : Bool) (r : VcpuStepped)
+      → steppedOut r ≡ handBackOn (vcpuVerdict 0 v (handBack 0 p iF sh)) (m .vmpl) iF sh v
+      → q ≡ pageOn (vcpuVerdict 0 v (handBack 0 p iF sh)) (handedPage (m .vmpl) (handed v) p) p
+      → onRecord m i (steppedOut r) q ≡ step m (handBack i p iF sh)
+  handedBack p q iF sh r e f =
+      let w = vmpl-in m i h in
+      ap₂ (λ (o : VcpuOut) (y : List ℕ). onRecord m i o y)
+      (e ∙ ap (λ (u : Vcpu). handBackOn (vcpuVerdict 0 u (handBack 0 p iF sh)) (m .vmpl) iF sh u) at)
+      (f ∙ same-handed (m .vmpl) (w .0) (w .1) v p (handed v) iF sh
+      ∙ ap (λ (u : Vcpu). pageOn (vcpuVerdict 0 u (handBack 0 p iF sh)) (written (m .vmpl) (handed u) p) p) at)
+      ∙ sym (lift-handBack m i h p iF sh)
+
+  -- a call, at the count of the module
+  module _ (op c x : ℕ) (whole : length (m .vcpus) ≡ 32) (r : VcpuCalled)
+      (e : calledOut r ≡ callOn (vcpuVerdict (m .registrations) v (call i op c x)) (requestOf op c x) i (m .registrations) v) where
+    enough : size m ≤ length (m .vcpus)
+    enough = omega (arith, size-le m)
+
+    step-is : calledOut r ≡ callStep m i h enough op c x
+    step-is = e ∙ ap (λ (u : Vcpu). callOn (vcpuVerdict (m .registrations) u (call i op c x)) (requestOf op c x) i (m .registrations) u) at
+
+    pub served-call : r .sends ≡ false
+        → record { result = resultOf (r .outcome); after = called m i (calledOut r); page = [] } ≡ step m (call i op c x)
+    served-call z =
+        ap (λ (o : CallOut). record { result = o .result; after = called m i o; page = [] }) step-is
+        ∙ sym (lift-local m i h enough op c x (sym (ap (λ (o : CallOut). o .sends) step-is) ∙ z))
+
+    same-size : size (called m i (calledOut r)) ≡ size m
+    unfolding size withRegistrations withVcpu
+    same-size = refl
+
+    pub sent-call : r .sends ≡ true → (s : Stepped)
+        → outOf s [] ≡ delivered (sendBelow i x (called m i (calledOut r)) (size (called m i (calledOut r))))
+        → outOf s [] ≡ step m (call i op c x)
+    sent-call z s f =
+        f ∙ ap (λ (n : ℕ). delivered (sendBelow i x (called m i (calledOut r)) n)) same-size
+        ∙ ap (λ (o : CallOut). delivered (sendBelow i x (called m i o) (size m))) step-is
+        ∙ sym (lift-send m i h enough op c x (sym (ap (λ (o : CallOut). o .sends) step-is) ∙ z))

@@ -1,0 +1,59 @@
+-- `gate::call` meets its contract: an unknown vCPU, the step of the caller's record, or that step and the IPI. Assumes nothing.
+use mathlib.Core.Path.{sym, ap, _∙_}
+use mathlib.Core.List.{[]}
+use Prim.Native.Nat.{_<_}
+use borrow.Author.Needs.{needs}
+use Rattle.model.specs.declared.Stepped.{Stepped}
+use Rattle.model.specs.State.{size, withVcpu, withRegistrations}
+use Rattle.model.specs.Events.{call, outOf}
+use Rattle.vcpu.specs.Lift.{unknown}
+use Rattle.gate.proofs.Steps.{known, not-known, below-32, records-32, record-is, served-call, sent-call}
+use Rattle.gate.proofs.call.Statement.{statement}
+use Rattle.gate.proofs.call.Tie as tie
+
+here : (c : tie.Else1)
+    → let a = c .before .before .args in
+    a .vcpu < size (a .t1)
+here c = known (c .before .before .args .t1) (c .before .served .ensures) (c .if1 .left)
+
+returns : tie.Need-returns
+returns c =
+    let a = c .before .before .before .args in
+    ap (λ (r : Stepped). outOf r []) (c .unknown .ensures)
+    ∙ sym (unknown (a .t1) (call (a .vcpu) (a .call) (a .ecx) (a .rdx)) (not-known (a .t1) (c .before .before .served .ensures) (c .before .if1 .taken)))
+
+returns-2 : tie.Need-returns-2
+unfolding withVcpu withRegistrations
+returns-2 c =
+    let e = c .before .before .before .before .before in
+    let a = e .before .before .args in
+    let l = records-32 (a .t1) _ (e .before .before .good .0) in
+    let r = c .before .before .before .call-vcpu in
+    sent-call (a .t1) (a .vcpu) (here e) _ (record-is (a .t1) (a .vcpu) _ (below-32 (a .t1) (here e)) l)
+    (a .call) (a .ecx) (a .rdx) l (r .result) (r .ensures) (c .before .if2 .taken) (c .send .result) (c .send .ensures)
+
+returns-3 : tie.Need-returns-3
+unfolding withVcpu withRegistrations
+returns-3 c =
+    let e = c .before .before .before .before in
+    let a = e .before .before .args in
+    let l = records-32 (a .t1) _ (e .before .before .good .0) in
+    let r = c .before .before .call-vcpu in
+    served-call (a .t1) (a .vcpu) (here e) _ (record-is (a .t1) (a .vcpu) _ (below-32 (a .t1) (here e)) l)
+    (a .call) (a .ecx) (a .rdx) l (r .result) (r .ensures) (c .if2 .left)
+
+pub call-spec : {M : Type 1} → statement M
+call-spec =
+    tie.close
+    (tie.spec
+    (λ c κs. search needs)
+    (λ c κs. search needs)
+    returns
+    (λ c. search needs)
+    (λ c. below-32 _ (here c))
+    (λ c κs. search needs)
+    (λ c. search needs)
+    (λ c. below-32 _ (here (c .before .before .before)))
+    (λ c κs. search needs)
+    returns-2
+    returns-3)

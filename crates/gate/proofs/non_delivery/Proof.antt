@@ -1,0 +1,46 @@
+-- `gate::non_delivery` meets its contract: an unknown vCPU, or the step of its record. Assumes nothing.
+use mathlib.Core.Path.{sym, ap, _∙_}
+use mathlib.Core.List.{[]}
+use Prim.Native.Nat.{_<_}
+use borrow.Author.Needs.{needs}
+use Rattle.model.specs.declared.Stepped.{Stepped}
+use Rattle.model.specs.State.{size, withVcpu}
+use Rattle.model.specs.Events.{nonDelivery, outOf}
+use Rattle.vcpu.specs.Lift.{unknown}
+use Rattle.gate.proofs.Steps.{known, not-known, below-32, records-32, record-is, returned}
+use Rattle.gate.proofs.non_delivery.Statement.{statement}
+use Rattle.gate.proofs.non_delivery.Tie as tie
+
+here : (c : tie.Else1)
+    → let a = c .before .before .args in
+    a .vcpu < size (a .t1)
+here c = known (c .before .before .args .t1) (c .before .served .ensures) (c .if1 .left)
+
+returns : tie.Need-returns
+returns c =
+    let a = c .before .before .before .args in
+    ap (λ (r : Stepped). outOf r []) (c .unknown .ensures)
+    ∙ sym (unknown (a .t1) (nonDelivery (a .vcpu)) (not-known (a .t1) (c .before .before .served .ensures) (c .before .if1 .taken)))
+
+returns-2 : tie.Need-returns-2
+unfolding withVcpu
+returns-2 c =
+    let e = c .before .before .before in
+    let a = e .before .before .args in
+    let l = records-32 (a .t1) _ (e .before .before .good .0) in
+    returned (a .t1) (a .vcpu) (here e) _ (record-is (a .t1) (a .vcpu) _ (below-32 (a .t1) (here e)) l)
+    (c .before .non-delivery-vcpu .result) (c .before .non-delivery-vcpu .ensures)
+
+pub non-delivery-spec : {M : Type 1} → statement M
+non-delivery-spec =
+    tie.close
+    (tie.spec
+    (λ c κs. search needs)
+    (λ c κs. search needs)
+    returns
+    (λ c. search needs)
+    (λ c. below-32 _ (here c))
+    (λ c κs. search needs)
+    (λ c. search needs)
+    (λ c. below-32 _ (here (c .before .before .before)))
+    returns-2)

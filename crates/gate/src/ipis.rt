@@ -1,0 +1,33 @@
+// An IPI to its targets.
+ghost use mathlib.Core.Path.{_≡_};
+ghost use mathlib.Core.List.{[]};
+ghost use Rattle.model.specs.State.{size};
+ghost use Rattle.model.specs.Events.{outOf};
+ghost use Rattle.vcpu.specs.Records.{sendBelow};
+ghost use Rattle.vcpu.specs.Lift.{delivered};
+use model::Module;
+use model::Outcome;
+use model::Stepped;
+
+// The ICR value goes to one vCPU after the other.
+pub fn send(m: Module, caller: u32, value: u64) -> Stepped
+    ensures { λ r. ⌜ outOf r [] ≡ delivered (sendBelow caller value m (size m)) ⌝ }
+{
+    let n = vcpu::records::served(m.n, m.vmpl);
+    let mut after = m;
+    let mut mask: u64 = 0;
+    let mut k: u32 = 0;
+    while k < n {
+        let j = k as usize;
+        let v = after.vcpus[j];
+        let s = vcpu::ipis::send_vcpu(v, caller, k, value, mask);
+        let w = s.vcpu;
+        after.vcpus[j] = w;
+        mask = s.mask;
+        k += 1;
+    }
+    Stepped {
+        outcome: Outcome::Done(mask),
+        after,
+    }
+}

@@ -1,0 +1,161 @@
+// The gate: start and the events, by value. The module goes in and comes back; a step of one record does the work.
+ghost use mathlib.Core.Path.{_≡_};
+ghost use mathlib.Core.List.{[]};
+ghost use Rattle.model.specs.Codes.{codeOf};
+ghost use Rattle.model.specs.Events.{Event, step, doStart, outOf, enteredOut};
+use model::Entered;
+use model::Module;
+use model::Outcome;
+use model::Presentation;
+use model::Refusal;
+use model::Stepped;
+
+mod handbacks;
+mod ipis;
+mod modules;
+mod pages;
+
+// The code of a refusal.
+pub fn code(c: Refusal) -> u32
+    ensures { λ r. ⌜ r ≡ codeOf c ⌝ }
+{
+    match c {
+        Refusal::UnknownVcpu => 1,
+        Refusal::ShortPage => 2,
+        Refusal::NotLeaving => 3,
+        Refusal::NothingInFlight => 4,
+        Refusal::BadStart => 5,
+        Refusal::NotActive => 0x8000_0001,
+        Refusal::UnknownCall => 0x8000_0002,
+        Refusal::BadRegister => 0x8000_0003,
+        Refusal::BadParameter => 0x8000_0005,
+        Refusal::RegistrationsFull => 0x8000_0007,
+        Refusal::NotRegistered => 0x8000_1000,
+    }
+}
+
+// A module of n vCPUs for a guest at the VMPL; refused unless n is 1 to 32 and the VMPL 1 to 3.
+pub fn start(n: u32, vmpl: u32) -> Stepped
+    ensures { λ r. ⌜ outOf r [] ≡ doStart n vmpl ⌝ }
+{
+    if modules::may_start(n, vmpl) {
+        return Stepped {
+            outcome: Outcome::Done(0),
+            after: modules::started(n, vmpl),
+        };
+    }
+    Stepped {
+        outcome: Outcome::Refused(Refusal::BadStart),
+        after: modules::stopped(),
+    }
+}
+
+// The answer for a vCPU that the module does not have.
+fn unknown(m: Module) -> Stepped
+    ensures { λ r. ⌜ r ≡ record { outcome = Outcome.Refused Refusal.UnknownVcpu; after = m } ⌝ }
+{
+    Stepped {
+        outcome: Outcome::Refused(Refusal::UnknownVcpu),
+        after: m,
+    }
+}
+
+// A host notice. The page after it has what was taken cleared.
+pub fn notice(m: Module, vcpu: u32, page: &mut [u8]) -> Stepped
+    ensures { λ r. ⌜ outOf r (now (page .exit)) ≡ step m (Event.notice vcpu (now (page .entry))) ⌝ }
+{
+    let n = vcpu::records::served(m.n, m.vmpl);
+    if n <= vcpu {
+        return unknown(m);
+    }
+    let i = vcpu as usize;
+    let v = m.vcpus[i];
+    let r = pages::notice_vcpu(v, m.vmpl, page);
+    let w = r.vcpu;
+    let outcome = r.outcome;
+    let mut after = m;
+    after.vcpus[i] = w;
+    Stepped { outcome, after }
+}
+
+// A guest call.
+pub fn call(m: Module, vcpu: u32, call: u32, ecx: u32, rdx: u64) -> Stepped
+    ensures { λ r. ⌜ outOf r [] ≡ step m (Event.call vcpu call ecx rdx) ⌝ }
+{
+    let n = vcpu::records::served(m.n, m.vmpl);
+    if n <= vcpu {
+        return unknown(m);
+    }
+    let i = vcpu as usize;
+    let v = m.vcpus[i];
+    let r = vcpu::calls::call_vcpu(v, vcpu, m.registrations, call, ecx, rdx);
+    let w = r.vcpu;
+    let outcome = r.outcome;
+    let mut after = m;
+    after.vcpus[i] = w;
+    after.registrations = r.registrations;
+    if r.sends {
+        return ipis::send(after, vcpu, rdx);
+    }
+    Stepped { outcome, after }
+}
+
+// An entry of the guest: what it is to be presented.
+pub fn entry(m: Module, vcpu: u32, iflag: bool, shadow: bool, blocked: bool) -> Entered
+    ensures { λ r. ⌜ enteredOut r ≡ step m (Event.entry vcpu iflag shadow blocked) ⌝ }
+{
+    let n = vcpu::records::served(m.n, m.vmpl);
+    if n <= vcpu {
+        return Entered {
+            presentation: Presentation::Refused(Refusal::UnknownVcpu),
+            after: m,
+        };
+    }
+    let i = vcpu as usize;
+    let v = m.vcpus[i];
+    let r = vcpu::entries::entry_vcpu(v, iflag, shadow, blocked);
+    let w = r.vcpu;
+    let presentation = r.presentation;
+    let mut after = m;
+    after.vcpus[i] = w;
+    Entered {
+        presentation,
+        after,
+    }
+}
+
+// What the latest entry presented was not delivered.
+pub fn non_delivery(m: Module, vcpu: u32) -> Stepped
+    ensures { λ r. ⌜ outOf r [] ≡ step m (Event.nonDelivery vcpu) ⌝ }
+{
+    let n = vcpu::records::served(m.n, m.vmpl);
+    if n <= vcpu {
+        return unknown(m);
+    }
+    let i = vcpu as usize;
+    let v = m.vcpus[i];
+    let r = vcpu::entries::non_delivery_vcpu(v);
+    let w = r.vcpu;
+    let outcome = r.outcome;
+    let mut after = m;
+    after.vcpus[i] = w;
+    Stepped { outcome, after }
+}
+
+// A leaving vCPU is handed back to the host: its pending and in-service state goes to the page.
+pub fn hand_back(m: Module, vcpu: u32, page: &mut [u8], iflag: bool, shadow: bool) -> Stepped
+    ensures { λ r. ⌜ outOf r (now (page .exit)) ≡ step m (Event.handBack vcpu (now (page .entry)) iflag shadow) ⌝ }
+{
+    let n = vcpu::records::served(m.n, m.vmpl);
+    if n <= vcpu {
+        return unknown(m);
+    }
+    let i = vcpu as usize;
+    let v = m.vcpus[i];
+    let r = handbacks::hand_back_vcpu(v, m.vmpl, page, iflag, shadow);
+    let w = r.vcpu;
+    let outcome = r.outcome;
+    let mut after = m;
+    after.vcpus[i] = w;
+    Stepped { outcome, after }
+}

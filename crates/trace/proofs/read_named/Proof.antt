@@ -1,0 +1,134 @@
+-- `trace::read_named` meets its contract: each arm is told the name.
+-- Assumes nothing.
+use mathlib.Core.Path.{sym, _∙_}
+use Rattle.trace.specs.Lines.{named}
+use Rattle.trace.proofs.Events.{renamed, plainly, plain-start, plain-call, plain-entry, plain-non-delivery, plain-state}
+use borrow.Author.Needs.{needs}
+use Rattle.trace.proofs.read_named.Statement.{statement}
+use Rattle.trace.proofs.read_named.Tie as tie
+
+enum-told : tie.Need-enum-told
+enum-told c = search needs
+
+read-start-requires : tie.Need-read-start-requires
+read-start-requires c κs = search needs
+
+enum-told-2 : tie.Need-enum-told-2
+enum-told-2 c = search needs
+
+read-notice-requires : tie.Need-read-notice-requires
+read-notice-requires c κs = search needs
+
+enum-told-3 : tie.Need-enum-told-3
+enum-told-3 c = search needs
+
+read-call-requires : tie.Need-read-call-requires
+read-call-requires c κs = search needs
+
+enum-told-4 : tie.Need-enum-told-4
+enum-told-4 c = search needs
+
+read-entry-requires : tie.Need-read-entry-requires
+read-entry-requires c κs = search needs
+
+enum-told-5 : tie.Need-enum-told-5
+enum-told-5 c = search needs
+
+read-non-delivery-requires : tie.Need-read-non-delivery-requires
+read-non-delivery-requires c κs = search needs
+
+enum-told-6 : tie.Need-enum-told-6
+enum-told-6 c = search needs
+
+read-hand-back-requires : tie.Need-read-hand-back-requires
+read-hand-back-requires c κs = search needs
+
+enum-told-7 : tie.Need-enum-told-7
+enum-told-7 c = search needs
+
+ended-requires : tie.Need-ended-requires
+ended-requires c κs = search needs
+
+enum-told-8 : tie.Need-enum-told-8
+enum-told-8 c = search needs
+
+returns : tie.Need-returns
+unfolding named
+returns c = (
+  c .read-start .ensures ∙ sym (renamed _ _ _ (c .before .enum-told .given .1)),
+  plainly _ _ (c .read-start .ensures) (plain-start _) _ _,
+)
+
+returns-2 : tie.Need-returns-2
+unfolding named
+returns-2 c = (
+  c .read-notice .ensures .0 ∙ sym (renamed _ _ _ (c .before .before .enum-told2 .given .1)),
+  c .read-notice .ensures .1,
+)
+
+returns-3 : tie.Need-returns-3
+unfolding named
+returns-3 c = (
+  c .read-call .ensures ∙ sym (renamed _ _ _ (c .before .enum-told3 .given .1)),
+  plainly _ _ (c .read-call .ensures) (plain-call _) _ _,
+)
+
+returns-4 : tie.Need-returns-4
+unfolding named
+returns-4 c = (
+  c .read-entry .ensures ∙ sym (renamed _ _ _ (c .before .enum-told4 .given .1)),
+  plainly _ _ (c .read-entry .ensures) (plain-entry _) _ _,
+)
+
+returns-5 : tie.Need-returns-5
+unfolding named
+returns-5 c = (
+  c .read-non-delivery .ensures ∙ sym (renamed _ _ _ (c .before .enum-told5 .given .1)),
+  plainly _ _ (c .read-non-delivery .ensures) (plain-non-delivery _) _ _,
+)
+
+returns-6 : tie.Need-returns-6
+unfolding named
+returns-6 c = (
+  c .read-hand-back .ensures .0 ∙ sym (renamed _ _ _ (c .before .before .enum-told6 .given .1)),
+  c .read-hand-back .ensures .1,
+)
+
+returns-7 : tie.Need-returns-7
+unfolding named
+returns-7 c = (
+  c .ended .ensures ∙ sym (renamed _ _ _ (c .before .enum-told7 .given .1)),
+  plainly _ _ (c .ended .ensures) (plain-state _) _ _,
+)
+
+returns-8 : tie.Need-returns-8
+unfolding named
+returns-8 c = (sym (renamed _ _ _ (c .enum-told8 .given .1)), tt)
+
+pub read-named-spec : {M : Type 1} → statement M
+read-named-spec =
+    tie.close
+    (tie.spec
+    enum-told
+    read-start-requires
+    enum-told-2
+    read-notice-requires
+    enum-told-3
+    read-call-requires
+    enum-told-4
+    read-entry-requires
+    enum-told-5
+    read-non-delivery-requires
+    enum-told-6
+    read-hand-back-requires
+    enum-told-7
+    ended-requires
+    enum-told-8
+    returns
+    returns-2
+    returns-3
+    returns-4
+    returns-5
+    returns-6
+    returns-7
+    returns-8)

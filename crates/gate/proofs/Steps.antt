@@ -11,7 +11,7 @@ use lib.Dec.{leb}
 use lib.ListN.{length, getD, length-map}
 use mir.Val.{Val}
 use denote.Laws.{Is}
-use borrow.Author.Tests.{leb-true}
+use borrow.Author.Tests.{leb-true, leb-false}
 use Rattle.model.proofs.Module as modules
 use Rattle.model.specs.declared.Refusal.the-variants.{NotActive, NotLeaving, ShortPage}
 use Rattle.model.specs.declared.Vcpu.{Vcpu}
@@ -21,7 +21,7 @@ use Rattle.model.specs.State.{isActive, isLeaving, size, vcpuAt, withVcpu, with
 use Rattle.model.specs.Doorbell.{longEnough, Part, admitted, noticedPage, written}
 use Rattle.model.specs.Codes.{resultOf}
 use Rattle.model.specs.Requests.{requestOf}
-use Rattle.model.specs.Events.{Event, notice, call, entry, nonDelivery, handBack, offer, accept, need, vcpuVerdict, Out, handed, step, outOf}
+use Rattle.model.specs.Events.{notice, call, entry, nonDelivery, handBack, offer, accept, need, vcpuVerdict, handed, step, outOf}
 use Rattle.doorbell.specs.Served.{serves, takenPart, takenPage, served, taken-part, taken-page}
 use Rattle.doorbell.specs.Handed.{handedPage, handed-page}
 use Rattle.vcpu.specs.declared.VcpuStepped.{VcpuStepped}
@@ -38,11 +38,11 @@ unfolding servedCount size
 size-is m = refl
 
 -- a vCPU that the test lets through or not
-pub known : (m : Module) {i n : ℕ} → n ≡ servedCount (m .n) (m .vmpl) → i < n → i < size m
-known m e h = omega (arith, e ∙ size-is m)
+pub known : (m : Module) (i : ℕ) {r : Bool} → r ≡ leb (servedCount (m .n) (m .vmpl)) i → r ≡ false → i < size m
+known m i e f = omega (arith, leb-false _ i (sym e ∙ f), size-is m)
 
-pub not-known : (m : Module) {i n : ℕ} → n ≡ servedCount (m .n) (m .vmpl) → n ≤ i → size m ≤ i
-not-known m e h = omega (arith, e ∙ size-is m)
+pub not-known : (m : Module) (i : ℕ) {r : Bool} → r ≡ leb (servedCount (m .n) (m .vmpl)) i → r ≡ true → size m ≤ i
+not-known m i e t = omega (arith, leb-true _ i (sym e ∙ t), size-is m)
 
 pub below-32 : (m : Module) {i : ℕ} → i < size m → i < 32
 below-32 m h = omega (arith, size-le m)

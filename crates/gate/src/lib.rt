@@ -10,10 +10,10 @@ use model::Presentation;
 use model::Refusal;
 use model::Stepped;
 
-mod handbacks;
+pub mod handbacks;
 mod ipis;
 mod modules;
-mod pages;
+pub mod pages;
 
 // The code of a refusal.
 pub fn code(c: Refusal) -> u32
@@ -64,15 +64,14 @@ fn unknown(m: Module) -> Stepped
 pub fn notice(m: Module, vcpu: u32, page: &mut [u8]) -> Stepped
     ensures { λ r. ⌜ outOf r (now (page .exit)) ≡ step m (Event.notice vcpu (now (page .entry))) ⌝ }
 {
-    let n = vcpu::records::served(m.n, m.vmpl);
-    if n <= vcpu {
+    if modules::lacks(m.n, m.vmpl, vcpu) {
         return unknown(m);
     }
     let i = vcpu as usize;
     let v = m.vcpus[i];
-    let r = pages::notice_vcpu(v, m.vmpl, page);
-    let w = r.vcpu;
-    let outcome = r.outcome;
+    let taken = pages::notice_vcpu(v, m.vmpl, page);
+    let w = taken.vcpu;
+    let outcome = taken.outcome;
     let mut after = m;
     after.vcpus[i] = w;
     Stepped { outcome, after }
@@ -82,19 +81,18 @@ pub fn notice(m: Module, vcpu: u32, page: &mut [u8]) -> Stepped
 pub fn call(m: Module, vcpu: u32, call: u32, ecx: u32, rdx: u64) -> Stepped
     ensures { λ r. ⌜ outOf r [] ≡ step m (Event.call vcpu call ecx rdx) ⌝ }
 {
-    let n = vcpu::records::served(m.n, m.vmpl);
-    if n <= vcpu {
+    if modules::lacks(m.n, m.vmpl, vcpu) {
         return unknown(m);
     }
     let i = vcpu as usize;
     let v = m.vcpus[i];
-    let r = vcpu::calls::call_vcpu(v, vcpu, m.registrations, call, ecx, rdx);
-    let w = r.vcpu;
-    let outcome = r.outcome;
+    let called = vcpu::calls::call_vcpu(v, vcpu, m.registrations, call, ecx, rdx);
+    let w = called.vcpu;
+    let outcome = called.outcome;
     let mut after = m;
     after.vcpus[i] = w;
-    after.registrations = r.registrations;
-    if r.sends {
+    after.registrations = called.registrations;
+    if called.sends {
         return ipis::send(after, vcpu, rdx);
     }
     Stepped { outcome, after }
@@ -104,8 +102,7 @@ pub fn call(m: Module, vcpu: u32, call: u32, ecx: u32, rdx: u64) -> Stepped
 pub fn entry(m: Module, vcpu: u32, iflag: bool, shadow: bool, blocked: bool) -> Entered
     ensures { λ r. ⌜ enteredOut r ≡ step m (Event.entry vcpu iflag shadow blocked) ⌝ }
 {
-    let n = vcpu::records::served(m.n, m.vmpl);
-    if n <= vcpu {
+    if modules::lacks(m.n, m.vmpl, vcpu) {
         return Entered {
             presentation: Presentation::Refused(Refusal::UnknownVcpu),
             after: m,
@@ -113,9 +110,9 @@ pub fn entry(m: Module, vcpu: u32, iflag: bool, shadow: bool, blocked: bool) -> 
     }
     let i = vcpu as usize;
     let v = m.vcpus[i];
-    let r = vcpu::entries::entry_vcpu(v, iflag, shadow, blocked);
-    let w = r.vcpu;
-    let presentation = r.presentation;
+    let entered = vcpu::entries::entry_vcpu(v, iflag, shadow, blocked);
+    let w = entered.vcpu;
+    let presentation = entered.presentation;
     let mut after = m;
     after.vcpus[i] = w;
     Entered {
@@ -128,15 +125,14 @@ pub fn entry(m: Module, vcpu: u32, iflag: bool, shadow: bool, blocked: bool) -> 
 pub fn non_delivery(m: Module, vcpu: u32) -> Stepped
     ensures { λ r. ⌜ outOf r [] ≡ step m (Event.nonDelivery vcpu) ⌝ }
 {
-    let n = vcpu::records::served(m.n, m.vmpl);
-    if n <= vcpu {
+    if modules::lacks(m.n, m.vmpl, vcpu) {
         return unknown(m);
     }
     let i = vcpu as usize;
     let v = m.vcpus[i];
-    let r = vcpu::entries::non_delivery_vcpu(v);
-    let w = r.vcpu;
-    let outcome = r.outcome;
+    let returned = vcpu::entries::non_delivery_vcpu(v);
+    let w = returned.vcpu;
+    let outcome = returned.outcome;
     let mut after = m;
     after.vcpus[i] = w;
     Stepped { outcome, after }
@@ -146,15 +142,14 @@ pub fn non_delivery(m: Module, vcpu: u32) -> Stepped
 pub fn hand_back(m: Module, vcpu: u32, page: &mut [u8], iflag: bool, shadow: bool) -> Stepped
     ensures { λ r. ⌜ outOf r (now (page .exit)) ≡ step m (Event.handBack vcpu (now (page .entry)) iflag shadow) ⌝ }
 {
-    let n = vcpu::records::served(m.n, m.vmpl);
-    if n <= vcpu {
+    if modules::lacks(m.n, m.vmpl, vcpu) {
         return unknown(m);
     }
     let i = vcpu as usize;
     let v = m.vcpus[i];
-    let r = handbacks::hand_back_vcpu(v, m.vmpl, page, iflag, shadow);
-    let w = r.vcpu;
-    let outcome = r.outcome;
+    let handed = handbacks::hand_back_vcpu(v, m.vmpl, page, iflag, shadow);
+    let w = handed.vcpu;
+    let outcome = handed.outcome;
     let mut after = m;
     after.vcpus[i] = w;
     Stepped { outcome, after }

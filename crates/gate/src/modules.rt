@@ -1,7 +1,9 @@
 // The modules that start gives.
 ghost use mathlib.Core.Path.{_≡_};
 ghost use Prim.Native.Nat.{_≤_};
+ghost use lib.Dec.{leb};
 ghost use Rattle.model.specs.State.{bare, mayStart, started, stopped};
+ghost use Rattle.vcpu.specs.Records.{servedCount};
 use model::InFlight;
 use model::Module;
 use model::Phase;
@@ -74,4 +76,12 @@ pub fn stopped() -> Module
         registrations: 0,
         vcpus,
     }
+}
+
+// A module with this n and VMPL has no vCPU of that number.
+pub fn lacks(n: u32, vmpl: u32, vcpu: u32) -> bool
+    ensures { λ r. ⌜ r ≡ leb (servedCount n vmpl) vcpu ⌝ }
+{
+    let served = vcpu::records::served(n, vmpl);
+    served <= vcpu
 }

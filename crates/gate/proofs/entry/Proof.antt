@@ -12,12 +12,14 @@ use Rattle.gate.proofs.entry.Tie as tie
 here : (c : tie.Else1)
     → let a = c .before .before .args in
     a .vcpu < size (a .t1)
-here c = known (c .before .before .args .t1) (c .before .served .ensures) (c .if1 .left)
+here c =
+    let a = c .before .before .args in
+    known (a .t1) (a .vcpu) (c .before .lacks .ensures) (c .if1 .left)
 
 returns : tie.Need-returns
 returns c =
     let a = c .before .before .args in
-    sym (unknown (a .t1) (entry (a .vcpu) (a .iflag) (a .shadow) (a .blocked)) (not-known (a .t1) (c .before .served .ensures) (c .if1 .taken)))
+    sym (unknown (a .t1) (entry (a .vcpu) (a .iflag) (a .shadow) (a .blocked)) (not-known (a .t1) (a .vcpu) (c .before .lacks .ensures) (c .if1 .taken)))
 
 returns-2 : tie.Need-returns-2
 unfolding withVcpu

@@ -14,13 +14,15 @@ use Rattle.gate.proofs.non_delivery.Tie as tie
 here : (c : tie.Else1)
     → let a = c .before .before .args in
     a .vcpu < size (a .t1)
-here c = known (c .before .before .args .t1) (c .before .served .ensures) (c .if1 .left)
+here c =
+    let a = c .before .before .args in
+    known (a .t1) (a .vcpu) (c .before .lacks .ensures) (c .if1 .left)
 
 returns : tie.Need-returns
 returns c =
     let a = c .before .before .before .args in
     ap (λ (r : Stepped). outOf r []) (c .unknown .ensures)
-    ∙ sym (unknown (a .t1) (nonDelivery (a .vcpu)) (not-known (a .t1) (c .before .before .served .ensures) (c .before .if1 .taken)))
+    ∙ sym (unknown (a .t1) (nonDelivery (a .vcpu)) (not-known (a .t1) (a .vcpu) (c .before .before .lacks .ensures) (c .before .if1 .taken)))
 
 returns-2 : tie.Need-returns-2
 unfolding withVcpu

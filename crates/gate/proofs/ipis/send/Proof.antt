@@ -1,10 +1,9 @@
 -- `gate::ipis::send` meets its contract. The loop's invariant: the vCPUs below k have been gone through. Assumes nothing.
-use mathlib.Core.Path.{_≡_, refl, sym, ap, _∙_}
-use Prim.Native.Nat.{ℕ, _-_, _<_, _≤_}
+use mathlib.Core.Path.{_≡_, refl, ap, _∙_}
+use Prim.Native.Nat.{_-_, _<_, _≤_}
 use native.Mathlib.Omega.{arith}
 use lib.ListN.{length, length-set}
 use borrow.Author.Needs.{needs}
-use Rattle.model.specs.declared.Module.{Module}
 use Rattle.model.specs.State.{size, withVcpu}
 use Rattle.vcpu.specs.Records.{Sending, sendBelow}
 use Rattle.vcpu.specs.Lift.{delivered, size-le}

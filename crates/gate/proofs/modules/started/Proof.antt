@@ -6,7 +6,6 @@ use native.Mathlib.Numerals.{add-one}
 use native.Mathlib.Omega.{arith}
 use lib.ListN.{set, replicate}
 use borrow.Author.Needs.{needs}
-use Rattle.model.specs.declared.Module.{Module}
 use Rattle.model.specs.declared.Vcpu.{Vcpu}
 use Rattle.model.specs.State.{absent, started}
 use Rattle.gate.proofs.modules.started.Statement.{statement}

@@ -1,5 +1,5 @@
 -- `gate::modules::stopped` meets its contract: its records are all absent. Assumes nothing.
-use mathlib.Core.Path.{_≡_, ap}
+use mathlib.Core.Path.{ap}
 use lib.ListN.{replicate}
 use borrow.Author.Needs.{needs}
 use Rattle.model.specs.declared.Module.{Module}

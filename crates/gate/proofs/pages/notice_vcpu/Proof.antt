@@ -13,7 +13,7 @@ use Rattle.model.specs.declared.Vcpu.{Vcpu}
 use Rattle.model.specs.State.{isActive}
 use Rattle.model.specs.Doorbell.{longEnough, Part, partOf, items}
 use Rattle.model.specs.Codes.{done}
-use Rattle.model.specs.Events.{notice, noticed, Verdict, accept, refuse, vcpuVerdict}
+use Rattle.model.specs.Events.{notice, noticed, accept, refuse, vcpuVerdict}
 use Rattle.doorbell.specs.Served.{takenPart, takenPage, Taken}
 use Rattle.vcpu.specs.declared.VcpuStepped.{VcpuStepped}
 use Rattle.vcpu.specs.Records.{VcpuOut, noticeOn, pageOn, steppedOut}

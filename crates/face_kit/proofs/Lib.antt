@@ -1,0 +1,7 @@
+pub mod Answers
+pub mod Face
+pub mod Frame
+pub mod Lens
+pub mod Page
+pub mod Pass
+pub mod Walk

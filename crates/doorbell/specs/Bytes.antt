@@ -18,6 +18,7 @@ use borrow.Author.Count.{below-more}
 use Rattle.vector_set.specs.Bits.{one, bitAt, bits}
 use Rattle.vector_set.specs.BitLaws.{bits-bit, bits-lt, bits-unique, bit-number}
 use Rattle.model.specs.Doorbell.{bitOf, bytesFrom, mapBits}
+pub use Rattle.model.specs.Bytes.{bitOf-byte, bytesFrom-at, bytesFrom-length}
 
 -- where an index stands beside another
 pub split : (j n : ℕ) → (j < n) ⊎ (n ≤ j)
@@ -32,13 +33,6 @@ place j n =
     ⊎-elim inl (λ h. inr (⊎-elim (λ (q : n ≡ j). inl (sym q)) (λ (q : n < j). inr q) (eq-or-lt-of-le h))) (split j n)
 
 -- ---- a bit of bytes is a bit of a byte
-pub bitOf-byte : (p : List ℕ) (j b : ℕ) → b < 8 → bitOf p (8 * j + b) ≡ bitAt (getD p j 0) b
-unfolding bitOf
-bitOf-byte p j b h =
-    let d : (8 * j + b) / 8 ≡ j = omega arith in
-    let m : (8 * j + b) % 8 ≡ b = omega arith in
-    rw (d, m)
-
 -- a byte is made from its bits
 pub byte-bits : (p : List ℕ) (j : ℕ) → getD p j 0 < 256 → getD p j 0 ≡ bits (bitOf p) (8 * j) 8
 byte-bits p j h = bits-unique (bitOf p) (8 * j) 8 (getD p j 0) h (λ b l. sym (bitOf-byte p j b l))
@@ -71,18 +65,6 @@ word-bytes p j s =
     (omega (arith, rw e1 at a, rw e2 at b, rw e3 at c))
 
 -- ---- bytes made from their bits
-pub bytesFrom-at : (f : ℕ → Bool) (j n i : ℕ) → i < n → getD (bytesFrom f j n) i 0 ≡ bits f (8 * (j + i)) 8
-unfolding bytesFrom
-bytesFrom-at f j zero i h = absurd (not-suc-le-zero h)
-bytesFrom-at f j (suc n) zero h = let e : j + 0 ≡ j = omega arith in rw e
-bytesFrom-at f j (suc n) (suc i) h =
-    let e : j + suc i ≡ suc j + i = omega arith in rw e (bytesFrom-at f (suc j) n i (le-of-suc-le-suc h))
-
-pub bytesFrom-length : (f : ℕ → Bool) (j n : ℕ) → length (bytesFrom f j n) ≡ n
-unfolding bytesFrom
-bytesFrom-length f j zero = refl
-bytesFrom-length f j (suc n) = ap suc (bytesFrom-length f (suc j) n)
-
 -- q has n bytes, and bit 8 j + b of them is f (8 j + b)
 pub record Made (f : ℕ → Bool) (n : ℕ) (q : List ℕ) : Type 0 where
   pub long : length q ≡ n

@@ -16,6 +16,7 @@ ghost use Rattle.model.specs.State.{size};
 ghost use Rattle.model.specs.Events.{Event, step, outOf, enteredOut};
 ghost use Rattle.vcpu.specs.Records.{sendBelow};
 
+// A host notice. The page after it has what was taken cleared.
 pub fn notice_in(m: &mut Module, vcpu: u32, page: &mut [u8]) -> Outcome
     ensures { λ r. ⌜ outOf (record { outcome = r; after = now (m .exit) }) (now (page .exit)) ≡ step (now (m .entry)) (Event.notice vcpu (now (page .entry))) ⌝ }
 {
@@ -30,6 +31,7 @@ pub fn notice_in(m: &mut Module, vcpu: u32, page: &mut [u8]) -> Outcome
     noticed.outcome
 }
 
+// An entry of the guest: what it is to be presented.
 pub fn entry_in(m: &mut Module, vcpu: u32, iflag: bool, shadow: bool, blocked: bool) -> Presentation
     ensures { λ r. ⌜ enteredOut (record { presentation = r; after = now (m .exit) }) ≡ step (now (m .entry)) (Event.entry vcpu iflag shadow blocked) ⌝ }
 {
@@ -44,6 +46,7 @@ pub fn entry_in(m: &mut Module, vcpu: u32, iflag: bool, shadow: bool, blocked: b
     entered.presentation
 }
 
+// What the latest entry presented was not delivered.
 pub fn non_delivery_in(m: &mut Module, vcpu: u32) -> Outcome
     ensures { λ r. ⌜ outOf (record { outcome = r; after = now (m .exit) }) [] ≡ step (now (m .entry)) (Event.nonDelivery vcpu) ⌝ }
 {
@@ -76,6 +79,7 @@ fn send_in(m: &mut Module, caller: u32, value: u64) -> u64
     mask
 }
 
+// A guest call. An IPI goes out once the caller's record and the count are stored.
 pub fn call_in(m: &mut Module, vcpu: u32, call: u32, ecx: u32, rdx: u64) -> Outcome
     ensures { λ r. ⌜ outOf (record { outcome = r; after = now (m .exit) }) [] ≡ step (now (m .entry)) (Event.call vcpu call ecx rdx) ⌝ }
 {
@@ -94,6 +98,7 @@ pub fn call_in(m: &mut Module, vcpu: u32, call: u32, ecx: u32, rdx: u64) -> Outc
     called.outcome
 }
 
+// A hand-back: what the vCPU has pending and in service goes to the page.
 pub fn hand_back_in(
     m: &mut Module,
     vcpu: u32,

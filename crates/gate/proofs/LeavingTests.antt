@@ -53,8 +53,7 @@ module _ (v : Vcpu) (p q : List ℕ) (l : ℕ) (iF sh : Bool) where
   pub hands : isLeaving (v .phase) ≡ true → longEnough p ≡ true → (x : ℕ) (w : Vcpu) (r : List ℕ)
       → x ≡ handBackResult l (v .tpr) iF sh → w ≡ emptied v → r ≡ q → Hands (record { result = done x; vcpu = w }) r
   unfolding handBackOn pageOn
-  hands e f x w r a b c =
-      (
-        rw (by-tests v p iF sh true true e f) (ap₂ (λ (y : ℕ) (u : Vcpu). record { result = done y; vcpu = u }) a b),
-        rw (by-tests v p iF sh true true e f) c,
-      )
+  hands e f x w r a b c = (
+    rw (by-tests v p iF sh true true e f) (ap₂ (λ (y : ℕ) (u : Vcpu). record { result = done y; vcpu = u }) a b),
+    rw (by-tests v p iF sh true true e f) c,
+  )

@@ -3,4 +3,3 @@ pub mod Bytes
 pub mod Clear
 pub mod Notice
 pub mod Served
-pub mod Handed

@@ -9,7 +9,6 @@ use vector_set::Found;
 
 mod clear;
 mod descriptor;
-pub mod handback;
 
 // The byte of the page with the announcing bits: bit L - 1 for VMPL L.
 const ANNOUNCEMENTS: usize = 3;
@@ -38,7 +37,8 @@ pub fn items_of(a: Admitted) -> u32
     one_if(a.nmi) + one_found(level) + vector_set::count_of(edge)
 }
 
-fn nothing() -> Admitted
+// What a refused notice, or a page that announces nothing, admits.
+pub fn nothing() -> Admitted
     ensures { λ r. ⌜ partOf r ≡ noPart ⌝ }
 {
     let edge = vector_set::no_vectors();

@@ -1,5 +1,6 @@
 -- The frame of a walked function: its locals allocated at once and freed at once, whole locals read and written, and calls of by-value functions. It says nothing of any function or type.
 --     Blocks ls, env ls bs     a block for each local; the environment that they make
+--     cell                     a local, empty or full
 --     rooms, cells, deaths     the locals as context entries, in their order: empty, and holding what `cs` says; and what frees them, as one assertion
 --     contents Γ               what the entries of a context hold
 --     allocates                a function's locals are allocated: local i stands i entries behind what was there
@@ -95,7 +96,7 @@ module _ {M : Type 1} {𝓤 : URA M} where
   rooms [] bs = []
   rooms (local τ h ∷ ls) bs = ‵ (froom τ (bs .0) zero) ∷ rooms ls (bs .1)
 
-  abbrev cell : Ty → ℕ → Option Val → Item 𝓤
+  abbrev pub cell : Ty → ℕ → Option Val → Item 𝓤
   cell τ b none = ‵ (froom τ b zero)
   cell τ b (full v) = ‵ (fat fullShare τ b zero v)
 

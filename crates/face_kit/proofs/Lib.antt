@@ -2,6 +2,10 @@ pub mod Answers
 pub mod Face
 pub mod Frame
 pub mod Lens
+pub mod OnePage
+pub mod OneRecord
 pub mod Page
 pub mod Pass
+pub mod Record
+pub mod Served
 pub mod Walk

@@ -1,9 +1,9 @@
--- Thin functions `fn(m: &mut Module, vcpu: u32, page: &mut [u8], ..) -> ..` that pass the page on to a step of one record: `step(v: Vcpu, vmpl: u32, page: &mut [u8], ..) -> ..`. It says nothing of any function.
+-- Thin functions `fn(m: &mut Module, vcpu: u32, page: &mut [u8], ..) -> ..` that pass the page on to a function of the page: `fn(page: &mut [u8], ..) -> ..`. It says nothing of any function.
 --     lent, spent              the page, with its bytes; what is left of it once it is given up
 --     AfterPage, leaves-page   what a walk has to reach, and its last step
 --     keeps-page               the page is given up as it was, on a way out that does not pass it on
 --     face-page                a walk is a proof of the contract
---     PageContract, asks-page  the step's contract, whose `ensures` is a fact of the arguments, the result and the bytes before and after; a call of it
+--     PageContract, asks-page  that function's contract, whose `ensures` is a fact of the arguments, the result and the bytes before and after; a call of it, with the page at the head of the context
 -- In a walk's context: [the module; the open borrow; obs; auth; the page; its token; local 0; local 1; ..]
 -- Assumes `Given`, and `FmC` of the table of calls for a call.
 use mathlib.Core.Path.{_≡_, refl, sym, ap, subst}
@@ -30,13 +30,12 @@ use sound.WpLaws.{FmC, WpFn-mono}
 use denote.RattleType.{RattleType, Denots, Valss, flat, owns}
 use denote.Laws.{Is, shows, Ises, Are, Spells, valss, Tells, Tellss, Makes, Makess, owns-make}
 use denote.Memory.{mem, partAt}
-use denote.Plain.{uint-vals, uint-tells, uint-makes}
+use denote.Plain.{uint-vals, uint-tells}
 use denote.Builtin.{u8, u32, RefMutOf, SliceRefMutOf}
 use denote.Ref.{RefT, now, ptr-vals, mut-tells}
 use denote.Slice.{MutSlice, Room, sliceVal, finally, slice-vals, mut-slice-tells}
 use denote.Signature.{Slot, plain, typesAt}
 use denote.Steps.{only, owned, heard, facts, nothing}
-use denote.Struct.Laws as LL
 use denote.Exit.{yes}
 use denote.Triple.Clauses.{Ended, Clauses, closing, ensured, lasts}
 use denote.Triple.End.{Kepts, Fins}
@@ -44,13 +43,10 @@ use denote.Triple.Spec.{Meets, tripleOf}
 use denote.Triple.Statement.{Contract, Triple}
 use denote.Triple.Walked.{says, Stays, gave-ref, gave-slice, stay-dropped, hasOf, goes-gave-ref, goes-gave-slice, goes-slice, goes-dropped, walkOf, ends-at, walked, walk-meets}
 use Rattle.model.specs.declared.Module.{Module}
-use Rattle.model.specs.declared.Vcpu.{Vcpu}
 use Rattle.model.proofs.Module as T
 use Rattle.model.proofs.Vcpu as R
-use Rattle.model.proofs.Vcpu.Laws as R′
 use Rattle.face_kit.proofs.Frame.{Blocks, env, cells, deaths, contents, frees-all}
 use Rattle.face_kit.proofs.Face.{held, drops, Unchanged, lasts-of, fits-of, had-of, go-of}
-use Rattle.face_kit.proofs.Lens.{machV}
 
 module _ {M : Type 1} (𝓤 : URA M) (H : Heap 𝓤) (A : Atoms 𝓤) (κ : Lft) (q : Share) (b o : ℕ) (γ : GName) where
   -- a page as a value
@@ -101,56 +97,53 @@ module _ {M : Type 1} {𝓤 : URA M} {H : Heap 𝓤} {A : Atoms 𝓤} {K : Type 
         frees-all t (both-settled 𝓤 H A κ q b o γ κ′ q′ b′ o′ γ′ h zs) {Γ = ‵ (fat fullShare (spotOf 𝓤 H (env ls bs) 0 .0) (spotOf 𝓤 H (env ls bs) 0 .1) 0 w) ∷ Γ} ls bs e $
         by t (ends 𝓤 H A κ q b o γ κ′ q′ b′ o′ γ′ ys R Q W mk w r h zs is said l)
 
--- ---- the step of one record that is passed the page
+-- ---- the function that is passed the page
 module _ (ts : List (Slot 1)) (ks : Kepts ts) (res : Slot 1) where
   abbrev pub ByPage : Ended
-  ByPage = record { signature = record { lifetimes = 1; outlives = []; params = plain (λ _. R.the-row) ∷ plain (λ _. u32) ∷ SliceRefMutOf (0 ∷ []) tt (plain (λ _. u8)) (λ _. tt) ∷ ts; result = res }; kept = (yes, (yes, (yes, ks))) }
+  ByPage = record { signature = record { lifetimes = 1; outlives = []; params = SliceRefMutOf (0 ∷ []) tt (plain (λ _. u8)) (λ _. tt) ∷ ts; result = res }; kept = (yes, ks) }
 
-  module _ (φ : (κs : Lfts 1) → Vcpu → ℕ → List ℕ → Denots (typesAt ts κs) → res .row κs .Denot → List ℕ → Type 0) where
+  module _ (φ : (κs : Lfts 1) → List ℕ → Denots (typesAt ts κs) → res .row κs .Denot → List ℕ → Type 0) where
     abbrev page-says : {M : Type 1} (𝓤 : URA M) → Clauses 𝓤 ByPage
-    page-says 𝓤 κs a = record { ghost = Unit {0}; requires = λ g. emp 𝓤; ensures = λ g r e. fact 𝓤 (φ κs (a .0) (a .1 .0) (now (a .1 .1 .0)) (a .1 .1 .1) r (now (e .1 .1 .0))) }
+    page-says 𝓤 κs a = record { ghost = Unit {0}; requires = λ g. emp 𝓤; ensures = λ g r e. fact 𝓤 (φ κs (now (a .0)) (a .1) r (now (e .0))) }
 
     abbrev pub PageContract : {M : Type 1} (𝓤 : URA M) (H : Heap 𝓤) (A : Atoms 𝓤) → Contract 𝓤
     PageContract 𝓤 H A = tripleOf 𝓤 H A (ByPage .signature) (closing 𝓤 H A ByPage (page-says 𝓤))
 
-    module _ {M : Type 1} {𝓤 : URA M} {H : Heap 𝓤} {A : Atoms 𝓤} {K : Type 0} {W : Given 𝓤 H A} {x y z u : Item 𝓤} {Γ : List (Item 𝓤)} {E : Env 𝓤 H} {C : Calls 𝓤 H} {Λ : Loops 𝓤 H} {P : Post 𝓤 H} where
+    module _ {M : Type 1} {𝓤 : URA M} {H : Heap 𝓤} {A : Atoms 𝓤} {K : Type 0} {W : Given 𝓤 H A} {Γ : List (Item 𝓤)} {E : Env 𝓤 H} {C : Calls 𝓤 H} {Λ : Loops 𝓤 H} {P : Post 𝓤 H} where
       pub asks-page : K → FmC 𝓤 H (W .laws) C → {f : Name} {xs : List Operand} {d : Place} {next : Code} (κ : Lft) (q : Share) (b o : ℕ) (γ : GName) (ys : List ℕ)
           → (val : res .row (κ, tt) .Denot → Val) → Tells (res .row (κ, tt)) (Is (res .row (κ, tt))) (λ r. val r ∷ []) → Makess 𝓤 H A (typesAt ts (κ, tt)) (Ises (typesAt ts (κ, tt)))
-          → Triple 𝓤 (C f) (PageContract 𝓤 H A) → (w : Vcpu) → Is R.the-row w (machV w ∷ []) → (l : ℕ) → l < 2 ^ 32 → (a : Denots (typesAt ts (κ, tt))) (vss : Valss (typesAt ts (κ, tt))) → Are (typesAt ts (κ, tt)) (Ises (typesAt ts (κ, tt))) a vss
-          → Opds K W (x ∷ y ∷ z ∷ u ∷ ‵ (MutSlice (named 1) κ u8 .own (bytes 𝓤 H A κ q b o γ ys) (sliceVal (b, o) (length ys) ∷ [])) ∷ ‵ (flft κ q) ∷ Γ) E xs (machV w ∷ vint w32 l ∷ sliceVal (b, o) (length ys) ∷ flat (typesAt ts (κ, tt)) vss)
-          → ((r : res .row (κ, tt) .Denot) (zs : List ℕ) → φ (κ, tt) w l ys a r zs → length zs ≡ length ys → Is (res .row (κ, tt)) r (val r ∷ []) → Seq K W (x ∷ y ∷ z ∷ u ∷ ‵ (finally u8 γ zs) ∷ ‵ (flft κ q) ∷ Γ) (lands C Λ E d (val r) next P))
-          → Seq K W (x ∷ y ∷ z ∷ u ∷ ‵ (MutSlice (named 1) κ u8 .own (bytes 𝓤 H A κ q b o γ ys) (sliceVal (b, o) (length ys) ∷ [])) ∷ ‵ (flft κ q) ∷ Γ) (runs C Λ E (seq (call f xs d) next) P)
-      asks-page t fm {f} {xs} {d} {next} κ q b o γ ys val tells mk known w w-is l l-fits a vss are os k =
-          let at : PageContract 𝓤 H A .Ghost = (((κ, tt), (q, tt), tt, (w, (l, (bytes 𝓤 H A κ q b o γ ys, a))), (machV w ∷ [], (vint w32 l ∷ [], (sliceVal (b, o) (length ys) ∷ [], vss)))), tt) in
+          → Triple 𝓤 (C f) (PageContract 𝓤 H A) → (a : Denots (typesAt ts (κ, tt))) (vss : Valss (typesAt ts (κ, tt))) → Are (typesAt ts (κ, tt)) (Ises (typesAt ts (κ, tt))) a vss
+          → Opds K W (lent 𝓤 H A κ q b o γ ys ++ Γ) E xs (sliceVal (b, o) (length ys) ∷ flat (typesAt ts (κ, tt)) vss)
+          → ((r : res .row (κ, tt) .Denot) (zs : List ℕ) → φ (κ, tt) ys a r zs → length zs ≡ length ys → Is (res .row (κ, tt)) r (val r ∷ []) → Seq K W (spent 𝓤 H A κ q b o γ zs ++ Γ) (lands C Λ E d (val r) next P))
+          → Seq K W (lent 𝓤 H A κ q b o γ ys ++ Γ) (runs C Λ E (seq (call f xs d) next) P)
+      asks-page t fm {f} {xs} {d} {next} κ q b o γ ys val tells mk known a vss are os k =
+          let at : PageContract 𝓤 H A .Ghost = (((κ, tt), (q, tt), tt, (bytes 𝓤 H A κ q b o γ ys, a), (sliceVal (b, o) (length ys) ∷ [], vss)), tt) in
           let vs : List Val = PageContract 𝓤 H A .args at in
           let Q : Val → SProp 𝓤 = PageContract 𝓤 H A .post at in
           record {
             prf = via 𝓤 (evalOpds 𝓤 H E xs (λ us. C f us (λ v. aim 𝓤 H (lands C Λ E d v next P))))
                 (os .go (λ us. C f us (λ v. aim 𝓤 H (lands C Λ E d v next P)))
-                (via 𝓤 (sep 𝓤 (C f vs Q) (⋆ 𝓤 H A (x ∷ y ∷ z ∷ u ∷ Γ)))
-                (qed W (x ∷ y ∷ z ∷ u ∷ ‵ (MutSlice (named 1) κ u8 .own (bytes 𝓤 H A κ q b o γ ys) (sliceVal (b, o) (length ys) ∷ [])) ∷ ‵ (flft κ q) ∷ Γ) ∵ move ! (4 ∷ 5 ∷ []) $
-                use2 W (raw (C f vs Q)) (via 𝓤 (PageContract 𝓤 H A .pre at) goes (known at)) $ frame ! $ done !)
-                (fm f vs Q (λ v. aim 𝓤 H (lands C Λ E d v next P)) (⋆ 𝓤 H A (x ∷ y ∷ z ∷ u ∷ Γ)) (λ v. via 𝓤 (⋆ 𝓤 H A (raw (Q v) ∷ x ∷ y ∷ z ∷ u ∷ Γ)) (push 𝓤 H A (raw (Q v)) (x ∷ y ∷ z ∷ u ∷ Γ)) (after v .prf)))))
+                (via 𝓤 (sep 𝓤 (C f vs Q) (⋆ 𝓤 H A Γ))
+                (qed W (lent 𝓤 H A κ q b o γ ys ++ Γ) ∵ use2 W (raw (C f vs Q)) (via 𝓤 (PageContract 𝓤 H A .pre at) goes (known at)) $ frame ! $ done !)
+                (fm f vs Q (λ v. aim 𝓤 H (lands C Λ E d v next P)) (⋆ 𝓤 H A Γ) (λ v. via 𝓤 (⋆ 𝓤 H A (raw (Q v) ∷ Γ)) (push 𝓤 H A (raw (Q v)) Γ) (after v .prf)))))
                 (W .laws .⇛-intro _);
           }
         where
           goes : ent 𝓤 (sep 𝓤 (sem 𝓤 H A (MutSlice (named 1) κ u8 .own (bytes 𝓤 H A κ q b o γ ys) (sliceVal (b, o) (length ys) ∷ []))) (A .lft κ q))
-              (PageContract 𝓤 H A .pre (((κ, tt), (q, tt), tt, (w, (l, (bytes 𝓤 H A κ q b o γ ys, a))), (machV w ∷ [], (vint w32 l ∷ [], (sliceVal (b, o) (length ys) ∷ [], vss)))), tt))
+              (PageContract 𝓤 H A .pre (((κ, tt), (q, tt), tt, (bytes 𝓤 H A κ q b o γ ys, a), (sliceVal (b, o) (length ys) ∷ [], vss)), tt))
           goes =
-              qed W (‵ (MutSlice (named 1) κ u8 .own (bytes 𝓤 H A κ q b o γ ys) (sliceVal (b, o) (length ys) ∷ [])) ∷ ‵ (flft κ q) ∷ []) ∵
-              use0 W (‵ (owns (typesAt ts (κ, tt)) a vss)) (owns-make 𝓤 H A (typesAt ts (κ, tt)) (Ises (typesAt ts (κ, tt))) mk a vss are) $ move ! (1 ∷ 0 ∷ []) $ fjoin ! $
-              owned ! u32 (Is u32) (uint-makes 𝓤 H A W w32) l _ (refl, l-fits) $ fjoin ! $ owned ! R.the-row (Is R.the-row) (LL.makes R.the-type R′.the-plain 𝓤 H A) w _ w-is $ fjoin ! $
+              qed W (lent 𝓤 H A κ q b o γ ys) ∵ use0 W (‵ (owns (typesAt ts (κ, tt)) a vss)) (owns-make 𝓤 H A (typesAt ts (κ, tt)) (Ises (typesAt ts (κ, tt))) mk a vss are) $ move ! (1 ∷ 0 ∷ []) $ fjoin ! $
               nothing ! $ move ! (2 ∷ 0 ∷ 1 ∷ []) $ join ! $ join ! $ frame ! $ nothing ! $ done !
 
-          after : (v : Val) → Seq K W (raw (PageContract 𝓤 H A .post (((κ, tt), (q, tt), tt, (w, (l, (bytes 𝓤 H A κ q b o γ ys, a))), (machV w ∷ [], (vint w32 l ∷ [], (sliceVal (b, o) (length ys) ∷ [], vss)))), tt) v) ∷ x ∷ y ∷ z ∷ u ∷ Γ) (lands C Λ E d v next P)
+          after : (v : Val) → Seq K W (raw (PageContract 𝓤 H A .post (((κ, tt), (q, tt), tt, (bytes 𝓤 H A κ q b o γ ys, a), (sliceVal (b, o) (length ys) ∷ [], vss)), tt) v) ∷ Γ) (lands C Λ E d v next P)
           after v =
-              use1 W (later (some (λ (r : res .row (κ, tt) .Denot). ((‵ (flft κ q) ⊛ ‵ ftrue) ⊛ ‵ (res .row (κ, tt) .own r (v ∷ []))) ⊛ raw (ensured 𝓤 H A ByPage (page-says 𝓤) (κ, tt) (w, (l, (bytes 𝓤 H A κ q b o γ ys, a))) tt r)))) (id⊢ 𝓤 _) $ await t tt $ pick t (λ r.
-              split t $ move t (1 ∷ []) $ use1 W (some (λ (zs : Unit {0} × (Unit {0} × (List ℕ × Fins (κ, tt) ts ks a))). ‵ (lasts ByPage (κ, tt) (w, (l, (bytes 𝓤 H A κ q b o γ ys, a))) zs) ⊛ raw (fact 𝓤 (φ (κ, tt) w l ys a r (zs .1 .1 .0))))) (id⊢ 𝓤 _) $ pick t (λ zs.
-              split t $ move t (1 ∷ []) $ heard t (φ (κ, tt) w l ys a r (zs .1 .1 .0)) (λ said. fsplit t $ drop t $ fsplit t $ drop t $ fsplit t $ fsplit t $ move t (1 ∷ []) $ feqL t (λ same.
+              use1 W (later (some (λ (r : res .row (κ, tt) .Denot). ((‵ (flft κ q) ⊛ ‵ ftrue) ⊛ ‵ (res .row (κ, tt) .own r (v ∷ []))) ⊛ raw (ensured 𝓤 H A ByPage (page-says 𝓤) (κ, tt) (bytes 𝓤 H A κ q b o γ ys, a) tt r)))) (id⊢ 𝓤 _) $ await t tt $ pick t (λ r.
+              split t $ move t (1 ∷ []) $ use1 W (some (λ (zs : List ℕ × Fins (κ, tt) ts ks a). ‵ (lasts ByPage (κ, tt) (bytes 𝓤 H A κ q b o γ ys, a) zs) ⊛ raw (fact 𝓤 (φ (κ, tt) ys a r (zs .0))))) (id⊢ 𝓤 _) $ pick t (λ zs.
+              split t $ move t (1 ∷ []) $ heard t (φ (κ, tt) ys a r (zs .0)) (λ said. fsplit t $ fsplit t $ move t (1 ∷ []) $ feqL t (λ same.
               -- [finally; the other parameters; the token and the result; ..]
               move t (1 ∷ []) $ drop t $ move t (1 ∷ []) $ split t $ move t (1 ∷ []) $ facts t (res .row (κ, tt)) (Is (res .row (κ, tt))) (shows 𝓤 H A (res .row (κ, tt))) r (v ∷ []) (λ is.
-              split t $ move t (1 ∷ []) $ drop t $ move t (2 ∷ 3 ∷ 4 ∷ 5 ∷ 1 ∷ 0 ∷ []) $
-              subst (λ (i : Val). Seq K W (x ∷ y ∷ z ∷ u ∷ ‵ (finally u8 γ (zs .1 .1 .0)) ∷ ‵ (flft κ q) ∷ Γ) (lands C Λ E d i next P)) (sym (ap only (tells r (v ∷ []) is))) (k r (zs .1 .1 .0) said same (subst (Is (res .row (κ, tt)) r) (tells r (v ∷ []) is) is)))))))
+              split t $ move t (1 ∷ []) $ drop t $ move t (1 ∷ 0 ∷ []) $
+              subst (λ (i : Val). Seq K W (spent 𝓤 H A κ q b o γ (zs .0) ++ Γ) (lands C Λ E d i next P)) (sym (ap only (tells r (v ∷ []) is))) (k r (zs .0) said same (subst (Is (res .row (κ, tt)) r) (tells r (v ∷ []) is) is)))))))
 
 -- ---- a thin function with a page
 module _ (ts : List (Slot 2)) (ks : Kepts ts) (res : Slot 2) where

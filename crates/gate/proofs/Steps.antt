@@ -18,18 +18,21 @@ use Rattle.model.specs.declared.Vcpu.{Vcpu}
 use Rattle.model.specs.declared.Module.{Module}
 use Rattle.model.specs.declared.Stepped.{Stepped}
 use Rattle.model.specs.State.{isActive, isLeaving, size, vcpuAt, withVcpu, withRegistrations}
-use Rattle.model.specs.Doorbell.{longEnough, Part, admitted, noticedPage, written}
-use Rattle.model.specs.Codes.{resultOf}
+use Rattle.model.specs.Doorbell.{longEnough, Part, partOf, admitted, noticedPage, written}
+use Rattle.model.specs.Codes.{Result, resultOf}
 use Rattle.model.specs.Requests.{requestOf}
-use Rattle.model.specs.Events.{notice, call, entry, nonDelivery, handBack, offer, accept, need, vcpuVerdict, handed, step, outOf}
+use Rattle.model.specs.Events.{notice, call, entry, nonDelivery, handBack, offer, accept, need, vcpuVerdict, noticed, emptied, handed, handBackResult, Out, step, outOf}
 use Rattle.doorbell.specs.Served.{serves, takenPart, takenPage, served, taken-part, taken-page}
-use Rattle.doorbell.specs.Handed.{handedPage, handed-page}
+use Rattle.handback.specs.Handed.{handedPage, handed-page}
+use Rattle.vcpu_pages.specs.declared.NoticeTaken.{NoticeTaken}
+use Rattle.vcpu_pages.specs.declared.HandedOver.{HandedOver}
+use Rattle.vcpu_pages.specs.Pages.{pageVerdict, takeOn, takenOut, handOn, handedOut, notice-refused, notice-accepted, hand-back-refused, hand-back-accepted}
 use Rattle.vcpu.specs.declared.VcpuStepped.{VcpuStepped}
 use Rattle.vcpu.specs.declared.VcpuEntered.{VcpuEntered}
 use Rattle.vcpu.specs.declared.VcpuCalled.{VcpuCalled}
 use Rattle.vcpu.specs.declared.VcpuSent.{VcpuSent}
 use Rattle.vcpu.specs.Records.{servedCount, VcpuOut, noticeOn, entryOn, nonDeliveryOn, handBackOn, pageOn, CallOut, callOn, sendOn, Sending, sendAt, sendBelow, steppedOut, enteredVcpu, calledOut}
-use Rattle.vcpu.specs.Lift.{size-le, onRecord, called, delivered, callStep, lift-notice, lift-entry, lift-nonDelivery, lift-handBack, lift-local, lift-send}
+use Rattle.vcpu.specs.Lift.{size-le, onRecord, called, delivered, callStep, lift-notice, lift-entry, lift-nonDelivery, lift-handBack, lift-local, lift-send, put-same}
 
 -- ---- the count
 -- the count by which the functions test a vCPU's number
@@ -139,29 +142,65 @@ module _ (m : Module) (i : ℕ) (h : i < size m) (v : Vcpu) (at : v ≡ vcpuAt m
       (e ∙ ap (λ (u : Vcpu). nonDeliveryOn (vcpuVerdict 0 u (nonDelivery 0)) (u .flight) u) at)
       ∙ sym (lift-nonDelivery m i h)
 
-  pub taken : (p q : List ℕ) (r : VcpuStepped)
-      → steppedOut r ≡ noticeOn (vcpuVerdict 0 v (notice 0 p)) (takenPart (m .vmpl) (v .allowed) p) v
-      → q ≡ pageOn (vcpuVerdict 0 v (notice 0 p)) (takenPage (m .vmpl) p) p
-      → onRecord m i (steppedOut r) q ≡ step m (notice i p)
-  taken p q r e f =
+  -- a notice that gave the record and the result o, and the page q
+  noticed-on : (p q : List ℕ) (o : VcpuOut) → o ≡ noticeOn (vcpuVerdict 0 v (notice 0 p)) (takenPart (m .vmpl) (v .allowed) p) v
+      → q ≡ pageOn (vcpuVerdict 0 v (notice 0 p)) (takenPage (m .vmpl) p) p → onRecord m i o q ≡ step m (notice i p)
+  noticed-on p q o e f =
       let w = vmpl-in m i h in
-      ap₂ (λ (o : VcpuOut) (y : List ℕ). onRecord m i o y)
+      ap₂ (λ (u : VcpuOut) (y : List ℕ). onRecord m i u y)
       (e ∙ same-part (m .vmpl) (w .0) (w .1) v p
       ∙ ap (λ (u : Vcpu). noticeOn (vcpuVerdict 0 u (notice 0 p)) (admitted (m .vmpl) (u .allowed) p) u) at)
       (f ∙ same-page (m .vmpl) (w .0) (w .1) v p ∙ ap (λ (u : Vcpu). pageOn (vcpuVerdict 0 u (notice 0 p)) (noticedPage (m .vmpl) p) p) at)
       ∙ sym (lift-notice m i h p)
 
-  pub handedBack : (p q : List ℕ) (iF sh : Bool) (r : VcpuStepped)
-      → steppedOut r ≡ handBackOn (vcpuVerdict 0 v (handBack 0 p iF sh)) (m .vmpl) iF sh v
-      → q ≡ pageOn (vcpuVerdict 0 v (handBack 0 p iF sh)) (handedPage (m .vmpl) (handed v) p) p
-      → onRecord m i (steppedOut r) q ≡ step m (handBack i p iF sh)
-  handedBack p q iF sh r e f =
+  handed-on : (p q : List ℕ) (iF sh : Bool) (o : VcpuOut) → o ≡ handBackOn (vcpuVerdict 0 v (handBack 0 p iF sh)) (m .vmpl) iF sh v
+      → q ≡ pageOn (vcpuVerdict 0 v (handBack 0 p iF sh)) (handedPage (m .vmpl) (handed v) p) p → onRecord m i o q ≡ step m (handBack i p iF sh)
+  handed-on p q iF sh o e f =
       let w = vmpl-in m i h in
-      ap₂ (λ (o : VcpuOut) (y : List ℕ). onRecord m i o y)
+      ap₂ (λ (u : VcpuOut) (y : List ℕ). onRecord m i u y)
       (e ∙ ap (λ (u : Vcpu). handBackOn (vcpuVerdict 0 u (handBack 0 p iF sh)) (m .vmpl) iF sh u) at)
       (f ∙ same-handed (m .vmpl) (w .0) (w .1) v p (handed v) iF sh
       ∙ ap (λ (u : Vcpu). pageOn (vcpuVerdict 0 u (handBack 0 p iF sh)) (written (m .vmpl) (handed u) p) p) at)
       ∙ sym (lift-handBack m i h p iF sh)
+
+  -- a refused event leaves the module: its record stored back is the module
+  kept : (r : Result) (q : List ℕ) → _≡_ {A = Out} (record { result = r; after = m; page = q }) (onRecord m i (record { result = r; vcpu = v }) q)
+  kept r q =
+      ap (λ (g : Module). record { result = r; after = g; page = q }) (sym (put-same m i))
+      ∙ ap (λ (u : Vcpu). onRecord m i (record { result = r; vcpu = u }) q) (sym at)
+
+  -- what taking a notice says of its answer r and the page q after it
+  abbrev pub Takes : List ℕ → NoticeTaken → List ℕ → Type 0
+  Takes p r q =
+      (takenOut r ≡ takeOn (pageVerdict (isActive (v .phase)) NotActive p) (takenPart (m .vmpl) (v .allowed) p))
+      × (q ≡ pageOn (pageVerdict (isActive (v .phase)) NotActive p) (takenPage (m .vmpl) p) p)
+
+  abbrev pub Hands : List ℕ → Bool → Bool → HandedOver → List ℕ → Type 0
+  Hands p iF sh r q =
+      (handedOut r ≡ handOn (pageVerdict (isLeaving (v .phase)) NotLeaving p) (handBackResult (m .vmpl) (v .tpr) iF sh))
+      × (q ≡ pageOn (pageVerdict (isLeaving (v .phase)) NotLeaving p) (handedPage (m .vmpl) (handed v) p) p)
+
+  module _ (p q : List ℕ) (r : NoticeTaken) (s : Takes p r q) where
+    pub notice-kept : r .refused ≡ true → outOf (record { outcome = r .outcome; after = m }) q ≡ step m (notice i p)
+    unfolding vcpuVerdict
+    notice-kept t = kept (resultOf (r .outcome)) q ∙ noticed-on p q _ (notice-refused (takenPart (m .vmpl) (v .allowed) p) v r (pageVerdict (isActive (v .phase)) NotActive p) (s .0) t) (s .1)
+
+    pub notice-taken : r .refused ≡ false → (w : Vcpu) → w ≡ noticed (partOf (r .part)) v → outOf (record { outcome = r .outcome; after = withVcpu m i w }) q ≡ step m (notice i p)
+    unfolding vcpuVerdict
+    notice-taken f w e =
+        ap (λ (u : Vcpu). onRecord m i (record { result = resultOf (r .outcome); vcpu = u }) q) e
+        ∙ noticed-on p q _ (notice-accepted (takenPart (m .vmpl) (v .allowed) p) v r (pageVerdict (isActive (v .phase)) NotActive p) (s .0) f) (s .1)
+
+  module _ (p q : List ℕ) (iF sh : Bool) (r : HandedOver) (s : Hands p iF sh r q) where
+    pub hand-back-kept : r .refused ≡ true → outOf (record { outcome = r .outcome; after = m }) q ≡ step m (handBack i p iF sh)
+    unfolding vcpuVerdict
+    hand-back-kept t = kept (resultOf (r .outcome)) q ∙ handed-on p q iF sh _ (hand-back-refused (m .vmpl) iF sh v r (pageVerdict (isLeaving (v .phase)) NotLeaving p) (s .0) t) (s .1)
+
+    pub handed-back : r .refused ≡ false → (w : Vcpu) → w ≡ emptied v → outOf (record { outcome = r .outcome; after = withVcpu m i w }) q ≡ step m (handBack i p iF sh)
+    unfolding vcpuVerdict
+    handed-back f w e =
+        ap (λ (u : Vcpu). onRecord m i (record { result = resultOf (r .outcome); vcpu = u }) q) e
+        ∙ handed-on p q iF sh _ (hand-back-accepted (m .vmpl) iF sh v r (pageVerdict (isLeaving (v .phase)) NotLeaving p) (s .0) f) (s .1)
 
   -- a call, at the count of the module
   module _ (op c x : ℕ) (whole : length (m .vcpus) ≡ 32) (r : VcpuCalled)

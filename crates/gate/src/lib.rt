@@ -1,8 +1,10 @@
-// The gate: start and the events, by value. The module goes in and comes back; a step of one record does the work.
+// The gate: the events, by value. The module goes in and comes back; a step of one record does the work.
 ghost use mathlib.Core.Path.{_≡_};
 ghost use mathlib.Core.List.{[]};
 ghost use Rattle.model.specs.Codes.{codeOf};
-ghost use Rattle.model.specs.Events.{Event, step, doStart, outOf, enteredOut};
+ghost use lib.Dec.{leb};
+ghost use Rattle.model.specs.Events.{Event, step, outOf, enteredOut};
+ghost use Rattle.vcpu.specs.Records.{servedCount};
 use model::Entered;
 use model::Module;
 use model::Outcome;
@@ -10,10 +12,7 @@ use model::Presentation;
 use model::Refusal;
 use model::Stepped;
 
-pub mod handbacks;
 mod ipis;
-mod modules;
-pub mod pages;
 
 // The code of a refusal.
 pub fn code(c: Refusal) -> u32
@@ -34,20 +33,12 @@ pub fn code(c: Refusal) -> u32
     }
 }
 
-// A module of n vCPUs for a guest at the VMPL; refused unless n is 1 to 32 and the VMPL 1 to 3.
-pub fn start(n: u32, vmpl: u32) -> Stepped
-    ensures { λ r. ⌜ outOf r [] ≡ doStart n vmpl ⌝ }
+// A module with this n and VMPL has no vCPU of that number.
+fn lacks(n: u32, vmpl: u32, vcpu: u32) -> bool
+    ensures { λ r. ⌜ r ≡ leb (servedCount n vmpl) vcpu ⌝ }
 {
-    if modules::may_start(n, vmpl) {
-        return Stepped {
-            outcome: Outcome::Done(0),
-            after: modules::started(n, vmpl),
-        };
-    }
-    Stepped {
-        outcome: Outcome::Refused(Refusal::BadStart),
-        after: modules::stopped(),
-    }
+    let served = vcpu::records::served(n, vmpl);
+    served <= vcpu
 }
 
 // The answer for a vCPU that the module does not have.
@@ -64,14 +55,20 @@ fn unknown(m: Module) -> Stepped
 pub fn notice(m: Module, vcpu: u32, page: &mut [u8]) -> Stepped
     ensures { λ r. ⌜ outOf r (now (page .exit)) ≡ step m (Event.notice vcpu (now (page .entry))) ⌝ }
 {
-    if modules::lacks(m.n, m.vmpl, vcpu) {
+    if lacks(m.n, m.vmpl, vcpu) {
         return unknown(m);
     }
     let i = vcpu as usize;
     let v = m.vcpus[i];
-    let taken = pages::notice_vcpu(v, m.vmpl, page);
-    let w = taken.vcpu;
+    let phase = v.phase;
+    let allowed = v.allowed;
+    let taken = vcpu_pages::notices::take(page, m.vmpl, phase, allowed);
     let outcome = taken.outcome;
+    if taken.refused {
+        return Stepped { outcome, after: m };
+    }
+    let part = taken.part;
+    let w = vcpu::notices::notice_vcpu(v, part);
     let mut after = m;
     after.vcpus[i] = w;
     Stepped { outcome, after }
@@ -81,12 +78,12 @@ pub fn notice(m: Module, vcpu: u32, page: &mut [u8]) -> Stepped
 pub fn call(m: Module, vcpu: u32, call: u32, ecx: u32, rdx: u64) -> Stepped
     ensures { λ r. ⌜ outOf r [] ≡ step m (Event.call vcpu call ecx rdx) ⌝ }
 {
-    if modules::lacks(m.n, m.vmpl, vcpu) {
+    if lacks(m.n, m.vmpl, vcpu) {
         return unknown(m);
     }
     let i = vcpu as usize;
     let v = m.vcpus[i];
-    let called = vcpu::calls::call_vcpu(v, vcpu, m.registrations, call, ecx, rdx);
+    let called = vcpu_calls::call_vcpu(v, vcpu, m.registrations, call, ecx, rdx);
     let w = called.vcpu;
     let outcome = called.outcome;
     let mut after = m;
@@ -102,7 +99,7 @@ pub fn call(m: Module, vcpu: u32, call: u32, ecx: u32, rdx: u64) -> Stepped
 pub fn entry(m: Module, vcpu: u32, iflag: bool, shadow: bool, blocked: bool) -> Entered
     ensures { λ r. ⌜ enteredOut r ≡ step m (Event.entry vcpu iflag shadow blocked) ⌝ }
 {
-    if modules::lacks(m.n, m.vmpl, vcpu) {
+    if lacks(m.n, m.vmpl, vcpu) {
         return Entered {
             presentation: Presentation::Refused(Refusal::UnknownVcpu),
             after: m,
@@ -110,7 +107,7 @@ pub fn entry(m: Module, vcpu: u32, iflag: bool, shadow: bool, blocked: bool) -> 
     }
     let i = vcpu as usize;
     let v = m.vcpus[i];
-    let entered = vcpu::entries::entry_vcpu(v, iflag, shadow, blocked);
+    let entered = vcpu_entries::entry_vcpu(v, iflag, shadow, blocked);
     let w = entered.vcpu;
     let presentation = entered.presentation;
     let mut after = m;
@@ -125,12 +122,12 @@ pub fn entry(m: Module, vcpu: u32, iflag: bool, shadow: bool, blocked: bool) -> 
 pub fn non_delivery(m: Module, vcpu: u32) -> Stepped
     ensures { λ r. ⌜ outOf r [] ≡ step m (Event.nonDelivery vcpu) ⌝ }
 {
-    if modules::lacks(m.n, m.vmpl, vcpu) {
+    if lacks(m.n, m.vmpl, vcpu) {
         return unknown(m);
     }
     let i = vcpu as usize;
     let v = m.vcpus[i];
-    let returned = vcpu::entries::non_delivery_vcpu(v);
+    let returned = vcpu_entries::non_delivery_vcpu(v);
     let w = returned.vcpu;
     let outcome = returned.outcome;
     let mut after = m;
@@ -142,14 +139,17 @@ pub fn non_delivery(m: Module, vcpu: u32) -> Stepped
 pub fn hand_back(m: Module, vcpu: u32, page: &mut [u8], iflag: bool, shadow: bool) -> Stepped
     ensures { λ r. ⌜ outOf r (now (page .exit)) ≡ step m (Event.handBack vcpu (now (page .entry)) iflag shadow) ⌝ }
 {
-    if modules::lacks(m.n, m.vmpl, vcpu) {
+    if lacks(m.n, m.vmpl, vcpu) {
         return unknown(m);
     }
     let i = vcpu as usize;
     let v = m.vcpus[i];
-    let handed = handbacks::hand_back_vcpu(v, m.vmpl, page, iflag, shadow);
-    let w = handed.vcpu;
+    let handed = vcpu_pages::handbacks::hand_over(page, m.vmpl, v, iflag, shadow);
     let outcome = handed.outcome;
+    if handed.refused {
+        return Stepped { outcome, after: m };
+    }
+    let w = vcpu_pages::handbacks::empty_vcpu(v);
     let mut after = m;
     after.vcpus[i] = w;
     Stepped { outcome, after }

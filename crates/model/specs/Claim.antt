@@ -8,12 +8,14 @@ use lib.Dec.{leb}
 use Rattle.model.specs.declared.InFlight.the-variants.{Nothing}
 use Rattle.model.specs.declared.Item.{Item}
 use Rattle.model.specs.State.{size, started, stopped, start}
-use Rattle.model.specs.Events.{Event, final}
-use Rattle.model.specs.Book.{note, bookOf, feedAll, parts}
-use Rattle.model.specs.Counts.{results, pages, InRange, timesPresented, timesAdmitted, timesSent, timesReturned}
+use Rattle.model.specs.Events.{Event, on, final}
+use Rattle.model.specs.Book.{recordAt, note, bookOf, feedAll, partBy, parts}
+use Rattle.model.specs.Counts.{results, pages, inPart, InRange, timesPresented, timesAdmitted, timesSent, timesReturned}
+use Rattle.model.specs.Allowed.{memberOf, part-allowed}
 use Rattle.model.specs.Follow.{follow-all}
 use Rattle.model.specs.Alike.{AllAlike, alike}
 use Rattle.model.specs.Bound.{bounded-start}
+use Rattle.vector_set.specs.Sets.{has}
 
 -- "A list starts from what start gives for some n and L, refused or not."
 pub record Demand3 (n l : ℕ) : Type 0 where
@@ -25,6 +27,10 @@ pub record Demand3 (n l : ℕ) : Type 0 where
   -- "What is admitted is judged by what the guest has allowed, and document 01's book tells that from the list alone":
   -- after every list the book has the final module's n, count, phases and allowed sets
   pub book : (es : List Event) → feedAll (bookOf (start n l)) (map note es) ≡ bookOf (final (start n l) es)
+  -- "What is admitted is judged by what the guest has allowed": after every list, what an event admits by the book is in the book's set of its vCPU
+  pub allowed : (es : List Event) (e : Event) (x : Item) → InRange x
+      → inPart x (partBy (start n l .vmpl) (feedAll (bookOf (start n l)) (map note es)) e) ≡ true
+      → has (recordAt (feedAll (bookOf (start n l)) (map note es)) (on e) .allowed) (memberOf x) ≡ true
   -- "after every such list, whatever the host sent, each vector and the NMI has been presented on each vCPU at most as often as notices admitted it there,
   -- guest calls sent it there and accepted non-deliveries returned it there, counted together"
   pub most : (es : List Event) (j : ℕ) (x : Item) → InRange x
@@ -38,6 +44,7 @@ demand3 n l =
     record {
       same = λ ds es a h. alike (start n l) a h;
       book = λ es. follow-all es (start n l);
+      allowed = λ es e x r h. part-allowed (start n l .vmpl) (feedAll (bookOf (start n l)) (map note es)) e x r h;
       most = λ es j x r. bounded-start n l j x r es;
     }
 

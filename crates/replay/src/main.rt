@@ -248,7 +248,7 @@ fn put_error(out: &mut [u8; 65536], at: usize, number: u64) -> usize {
 }
 
 fn play_start(n: u32, vmpl: u32, out: &mut [u8; 65536], at: usize) -> Played {
-    let s = gate::start(n, vmpl);
+    let s = gate_start::start(n, vmpl);
     let module = s.after;
     let outcome = s.outcome;
     Played {
@@ -482,7 +482,7 @@ fn finish(s: Session, line: &[u8; 65537], out: &mut [u8; 65536]) -> usize
 fn main() {
     let mut line = [0u8; 65537];
     let mut out = io::large_buffer();
-    let first = gate::start(0, 0);
+    let first = gate_start::start(0, 0);
     let module = first.after;
     let s = Session {
         module,

@@ -1,3 +1,2 @@
-pub mod CallsLaws
 pub mod Sets
 pub mod Told

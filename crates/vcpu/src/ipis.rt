@@ -19,15 +19,15 @@ pub fn send_vcpu(v: Vcpu, caller: u32, k: u32, value: u64, mask: u64) -> VcpuSen
     if 32 <= k {
         return passed_over(v, mask);
     }
-    let target = apic::icr::target_of(value);
-    if !apic::icr::is_target(target, caller, k) {
+    let target = icr::target_of(value);
+    if !icr::is_target(target, caller, k) {
         return passed_over(v, mask);
     }
     let phase = v.phase;
     let Phase::Active = phase else {
         return passed_over(v, mask);
     };
-    let item = apic::icr::item_of(value);
+    let item = icr::item_of(value);
     VcpuSent {
         mask: mask | (1 << k),
         vcpu: notices::post_item(v, item),

@@ -1,10 +1,9 @@
-// What an event does to the record of the vCPU that it names, by value. The crates above lift these steps to the module.
+// One record by value: its types, and what a notice and an IPI do to it.
+// Entry, non-delivery and guest calls are crates of their own. The crates above lift these steps to the module.
 use model::Outcome;
 use model::Presentation;
 use model::Vcpu;
 
-pub mod calls;
-pub mod entries;
 pub mod ipis;
 pub mod notices;
 pub mod records;

@@ -2,8 +2,11 @@
 ghost use mathlib.Core.Path.{_≡_};
 ghost use Rattle.model.specs.State.{withPhase, withFlight};
 ghost use Rattle.vcpu.specs.Records.{servedCount};
+use crate::VcpuStepped;
 use model::InFlight;
+use model::Outcome;
 use model::Phase;
+use model::Refusal;
 use model::Vcpu;
 
 // The count n that a module is answered with: 0 where n or the VMPL is out of range.
@@ -56,4 +59,12 @@ pub fn with_phase(v: Vcpu, phase: Phase) -> Vcpu
 {
     let flight = v.flight;
     written_anew(v, phase, flight)
+}
+
+// A refused event leaves the record as it was.
+pub fn refused(vcpu: Vcpu, c: Refusal) -> VcpuStepped
+    ensures { λ r. ⌜ r ≡ record { outcome = Outcome.Refused c; vcpu = vcpu } ⌝ }
+{
+    let outcome = Outcome::Refused(c);
+    VcpuStepped { outcome, vcpu }
 }

@@ -1,6 +1,6 @@
 // Sets of vectors 0 to 255 by value: eight words of 32 bits, the lowest vectors first.
 ghost use mathlib.Core.Path.{_≡_};
-ghost use Rattle.vector_set.specs.Sets.{has, empty, full, insert, remove, union, difference, intersection, from, highest, vectorOf, count, isEmpty};
+ghost use Rattle.vector_set.specs.Sets.{has, empty, insert, remove, union, difference, intersection, from, highest, vectorOf, count, isEmpty};
 
 // What a search of a set finds.
 pub enum Found {
@@ -12,12 +12,6 @@ pub fn no_vectors() -> [u32; 8]
     ensures { λ r. ⌜ r ≡ empty ⌝ }
 {
     [0; 8]
-}
-
-pub fn all_vectors() -> [u32; 8]
-    ensures { λ r. ⌜ r ≡ full ⌝ }
-{
-    [0xFFFF_FFFF; 8]
 }
 
 pub fn contains(s: [u32; 8], v: u8) -> bool

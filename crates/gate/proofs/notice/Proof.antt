@@ -1,4 +1,4 @@
--- `gate::notice` meets its contract: an unknown vCPU, or the step of its record and the page. Assumes nothing.
+-- `gate::notice` meets its contract: an unknown vCPU, a refused notice, or the page and the step of the record. Assumes nothing.
 use mathlib.Core.Path.{sym, ap, _∙_}
 use Prim.Native.Nat.{_<_}
 use borrow.Author.Needs.{needs}
@@ -6,7 +6,7 @@ use Rattle.model.specs.declared.Stepped.{Stepped}
 use Rattle.model.specs.State.{size, withVcpu}
 use Rattle.model.specs.Events.{notice, outOf}
 use Rattle.vcpu.specs.Lift.{unknown}
-use Rattle.gate.proofs.Steps.{known, not-known, below-32, records-32, record-is, taken}
+use Rattle.gate.proofs.Steps.{known, not-known, below-32, records-32, record-is, notice-kept, notice-taken}
 use Rattle.gate.proofs.notice.Statement.{statement}
 use Rattle.gate.proofs.notice.Tie as tie
 
@@ -24,14 +24,23 @@ returns c =
     ∙ sym (unknown (a .t1) (notice (a .vcpu) (a .page .now)) (not-known (a .t1) (a .vcpu) (c .before .before .lacks .ensures) (c .before .if1 .taken)))
 
 returns-2 : tie.Need-returns-2
-unfolding withVcpu
 returns-2 c =
-    let e = c .before .before .before .before .before .before in
+    let e = c .before .before .before .before .before .before .before in
     let a = e .before .before .before .args in
     let l = records-32 (a .t1) _ (e .before .before .before .good .0) in
-    let r = c .before .before .before .notice-vcpu in
-    taken (a .t1) (a .vcpu) (here e) _ (record-is (a .t1) (a .vcpu) _ (below-32 (a .t1) (here e)) l)
-    (a .page .now) (r .last .1 .1 .0) (r .result) (r .ensures .0) (r .ensures .1)
+    let r = c .before .before .before .take in
+    notice-kept (a .t1) (a .vcpu) (here e) _ (record-is (a .t1) (a .vcpu) _ (below-32 (a .t1) (here e)) l)
+    (a .page .now) (r .last .0) (r .result) (r .ensures) (c .if2 .taken)
+
+returns-3 : tie.Need-returns-3
+unfolding withVcpu
+returns-3 c =
+    let e = c .before .before .before .before .before .before .before .before .before in
+    let a = e .before .before .before .args in
+    let l = records-32 (a .t1) _ (e .before .before .before .good .0) in
+    let r = c .before .before .before .before .before .take in
+    notice-taken (a .t1) (a .vcpu) (here e) _ (record-is (a .t1) (a .vcpu) _ (below-32 (a .t1) (here e)) l)
+    (a .page .now) (r .last .0) (r .result) (r .ensures) (c .before .before .if2 .left) (c .notice-vcpu .result) (c .notice-vcpu .ensures)
 
 pub notice-spec : {M : Type 1} → statement M
 notice-spec =
@@ -44,6 +53,9 @@ notice-spec =
     (λ c. below-32 _ (here c))
     (λ c κs. search needs)
     (λ c. search needs)
-    (λ c. below-32 _ (here (c .before .before .before .before .before .before)))
+    returns-2
+    (λ c κs. search needs)
     (λ c. search needs)
-    returns-2)
+    (λ c. below-32 _ (here (c .before .before .before .before .before .before .before .before .before)))
+    (λ c. search needs)
+    returns-3)

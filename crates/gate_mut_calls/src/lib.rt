@@ -1,0 +1,49 @@
+// Guest calls on a module lent by `&mut`: the caller's record is stepped in place, and an IPI goes from record to record.
+ghost use mathlib.Core.Path.{_≡_};
+ghost use mathlib.Core.List.{[]};
+ghost use Rattle.model.specs.State.{size};
+ghost use Rattle.model.specs.Events.{Event, step, outOf};
+ghost use Rattle.vcpu.specs.Records.{sendBelow};
+use model::Module;
+use model::Outcome;
+use model::Refusal;
+use vcpu::ipis::send_vcpu;
+use vcpu::records::served;
+use vcpu_calls::call_vcpu;
+
+// The IPI of the vCPU caller with the ICR value: each record is reached or passed over. The bits of those reached.
+fn send_in(m: &mut Module, caller: u32, value: u64) -> u64
+    ensures { λ r. ⌜ record { mask = r; after = now (m .exit) } ≡ sendBelow caller value (now (m .entry)) (size (now (m .entry))) ⌝ }
+{
+    let n = served(m.n, m.vmpl);
+    let mut mask: u64 = 0;
+    let mut k: u32 = 0;
+    while k < n {
+        let j = k as usize;
+        let v = m.vcpus[j];
+        let sent = send_vcpu(v, caller, k, value, mask);
+        m.vcpus[j] = sent.vcpu;
+        mask = sent.mask;
+        k = k + 1;
+    }
+    mask
+}
+
+// A guest call. An IPI goes out once the caller's record and the count are stored.
+pub fn call_in(m: &mut Module, vcpu: u32, call: u32, ecx: u32, rdx: u64) -> Outcome
+    ensures { λ r. ⌜ outOf (record { outcome = r; after = now (m .exit) }) [] ≡ step (now (m .entry)) (Event.call vcpu call ecx rdx) ⌝ }
+{
+    let n = served(m.n, m.vmpl);
+    if n <= vcpu {
+        return Outcome::Refused(Refusal::UnknownVcpu);
+    }
+    let i = vcpu as usize;
+    let v = m.vcpus[i];
+    let called = call_vcpu(v, vcpu, m.registrations, call, ecx, rdx);
+    m.vcpus[i] = called.vcpu;
+    m.registrations = called.registrations;
+    if called.sends {
+        return Outcome::Done(send_in(m, vcpu, rdx));
+    }
+    called.outcome
+}

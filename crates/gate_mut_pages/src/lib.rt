@@ -1,0 +1,55 @@
+// Notices and hand-backs on a module lent by `&mut`: the page is handled beside the step of one vCPU's record.
+ghost use mathlib.Core.Path.{_≡_};
+ghost use Rattle.model.specs.Events.{Event, step, outOf};
+use model::Module;
+use model::Outcome;
+use model::Refusal;
+use vcpu::notices::notice_vcpu;
+use vcpu::records::served;
+use vcpu_pages::handbacks::empty_vcpu;
+use vcpu_pages::handbacks::hand_over;
+use vcpu_pages::notices::take;
+
+// A host notice. The page after it has what was taken cleared.
+pub fn notice_in(m: &mut Module, vcpu: u32, page: &mut [u8]) -> Outcome
+    ensures { λ r. ⌜ outOf (record { outcome = r; after = now (m .exit) }) (now (page .exit)) ≡ step (now (m .entry)) (Event.notice vcpu (now (page .entry))) ⌝ }
+{
+    let n = served(m.n, m.vmpl);
+    if n <= vcpu {
+        return Outcome::Refused(Refusal::UnknownVcpu);
+    }
+    let i = vcpu as usize;
+    let v = m.vcpus[i];
+    let taken = take(page, m.vmpl, v.phase, v.allowed);
+    if taken.refused {
+        return taken.outcome;
+    }
+    let w = notice_vcpu(v, taken.part);
+    m.vcpus[i] = w;
+    taken.outcome
+}
+
+// A hand-back: what the vCPU has pending and in service goes to the page.
+pub fn hand_back_in(
+    m: &mut Module,
+    vcpu: u32,
+    page: &mut [u8],
+    iflag: bool,
+    shadow: bool,
+) -> Outcome
+    ensures { λ r. ⌜ outOf (record { outcome = r; after = now (m .exit) }) (now (page .exit)) ≡ step (now (m .entry)) (Event.handBack vcpu (now (page .entry)) iflag shadow) ⌝ }
+{
+    let n = served(m.n, m.vmpl);
+    if n <= vcpu {
+        return Outcome::Refused(Refusal::UnknownVcpu);
+    }
+    let i = vcpu as usize;
+    let v = m.vcpus[i];
+    let handed = hand_over(page, m.vmpl, v, iflag, shadow);
+    if handed.refused {
+        return handed.outcome;
+    }
+    let w = empty_vcpu(v);
+    m.vcpus[i] = w;
+    handed.outcome
+}

@@ -1,0 +1,98 @@
+// Start: the module that a guest begins with.
+ghost use mathlib.Core.Path.{_≡_};
+ghost use mathlib.Core.List.{[]};
+ghost use Prim.Native.Nat.{_≤_};
+ghost use Rattle.model.specs.State.{bare, mayStart, started, stopped};
+ghost use Rattle.model.specs.Events.{doStart, outOf};
+use model::InFlight;
+use model::Module;
+use model::Outcome;
+use model::Phase;
+use model::Refusal;
+use model::Stepped;
+use model::Vcpu;
+
+// A record with nothing in it.
+fn bare(phase: Phase) -> Vcpu
+    ensures { λ r. ⌜ r ≡ bare phase ⌝ }
+{
+    let none = vector_set::no_vectors();
+    Vcpu {
+        allowed: none,
+        irr: none,
+        isr: none,
+        irr_level: none,
+        isr_level: none,
+        nmi: false,
+        tpr: 0,
+        icr: 0,
+        phase,
+        flight: InFlight::Nothing,
+    }
+}
+
+fn may_start(n: u32, vmpl: u32) -> bool
+    ensures { λ r. ⌜ r ≡ mayStart n vmpl ⌝ }
+{
+    if n < 1 {
+        return false;
+    }
+    if 32 < n {
+        return false;
+    }
+    if vmpl < 1 {
+        return false;
+    }
+    vmpl <= 3
+}
+
+// n fresh records, and records of nothing behind them.
+fn started(n: u32, vmpl: u32) -> Module
+    requires { ⌜ n ≤ 32 ⌝ }
+    ensures { λ r. ⌜ r ≡ started n vmpl ⌝ }
+{
+    let fresh = bare(Phase::Active);
+    let absent = bare(Phase::Left);
+    let mut vcpus = [absent; 32];
+    let end = n as usize;
+    let mut k: usize = 0;
+    while k < end {
+        vcpus[k] = fresh;
+        k += 1;
+    }
+    Module {
+        n,
+        vmpl,
+        registrations: 1,
+        vcpus,
+    }
+}
+
+fn stopped() -> Module
+    ensures { λ r. ⌜ r ≡ stopped ⌝ }
+{
+    let absent = bare(Phase::Left);
+    let vcpus = [absent; 32];
+    Module {
+        n: 0,
+        vmpl: 1,
+        registrations: 0,
+        vcpus,
+    }
+}
+
+// A module of n vCPUs for a guest at the VMPL; refused unless n is 1 to 32 and the VMPL 1 to 3.
+pub fn start(n: u32, vmpl: u32) -> Stepped
+    ensures { λ r. ⌜ outOf r [] ≡ doStart n vmpl ⌝ }
+{
+    if may_start(n, vmpl) {
+        return Stepped {
+            outcome: Outcome::Done(0),
+            after: started(n, vmpl),
+        };
+    }
+    Stepped {
+        outcome: Outcome::Refused(Refusal::BadStart),
+        after: stopped(),
+    }
+}

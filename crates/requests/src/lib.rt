@@ -1,0 +1,123 @@
+// What the numbers of a guest call ask for.
+ghost use mathlib.Core.Path.{_≡_};
+ghost use Rattle.model.specs.Registers.{kindOf};
+ghost use Rattle.model.specs.Requests.{registration, readBy, writeBy, writeValue, nameable, permission, requestOf};
+use model::Kind;
+use model::Local;
+use model::Refusal;
+use model::Request;
+
+pub mod kinds;
+
+fn bad() -> Request
+    ensures { λ r. ⌜ r ≡ Request.Refused Refusal.BadParameter ⌝ }
+{
+    Request::Refused(Refusal::BadParameter)
+}
+
+fn registration_of(ecx: u32) -> Request
+    ensures { λ r. ⌜ r ≡ registration ecx ⌝ }
+{
+    match ecx {
+        0 => Request::Local(Local::Leave),
+        1 => Request::Local(Local::Release),
+        2 => Request::Local(Local::Register),
+        _ => bad(),
+    }
+}
+
+fn read_of(r: u32) -> Request
+    ensures { λ q. ⌜ q ≡ readBy (kindOf r) r ⌝ }
+{
+    let kind = kinds::kind_of(r);
+    match kind {
+        Kind::None => Request::Refused(Refusal::BadRegister),
+        Kind::Read => Request::Local(Local::Read(r)),
+        Kind::Write => Request::Refused(Refusal::BadRegister),
+        Kind::Both => Request::Local(Local::Read(r)),
+    }
+}
+
+// A value written to a register that may be written.
+fn value_of(r: u32, x: u64) -> Request
+    ensures { λ q. ⌜ q ≡ writeValue r x ⌝ }
+{
+    match r {
+        0x80B => {
+            if x == 0 {
+                return Request::Local(Local::Eoi);
+            }
+            bad()
+        }
+        0x83F => {
+            if icr::is_vector(x) {
+                return Request::Local(Local::SelfIpi((x % 256) as u8));
+            }
+            bad()
+        }
+        0x808 => {
+            if x <= 255 {
+                return Request::Local(Local::SetTpr((x % 256) as u8));
+            }
+            bad()
+        }
+        _ => {
+            if icr::is_legal(x) {
+                return Request::Icr(x);
+            }
+            bad()
+        }
+    }
+}
+
+fn write_of(r: u32, x: u64) -> Request
+    ensures { λ q. ⌜ q ≡ writeBy (kindOf r) r x ⌝ }
+{
+    let kind = kinds::kind_of(r);
+    match kind {
+        Kind::None => Request::Refused(Refusal::BadRegister),
+        Kind::Read => bad(),
+        Kind::Write => value_of(r, x),
+        Kind::Both => value_of(r, x),
+    }
+}
+
+// A vector that call 4 may name, and no bit above 8.
+fn is_nameable(ecx: u32) -> bool
+    ensures { λ r. ⌜ r ≡ nameable ecx ⌝ }
+{
+    if 512 <= ecx {
+        return false;
+    }
+    let v = ecx % 256;
+    if v == 2 {
+        return true;
+    }
+    31 <= v
+}
+
+fn permission_of(ecx: u32) -> Request
+    ensures { λ r. ⌜ r ≡ permission ecx ⌝ }
+{
+    if !is_nameable(ecx) {
+        return bad();
+    }
+    let v = (ecx % 256) as u8;
+    if (ecx >> 8) % 2 == 1 {
+        return Request::Local(Local::Allow(v));
+    }
+    Request::Local(Local::Disallow(v))
+}
+
+pub fn request_of(call: u32, ecx: u32, rdx: u64) -> Request
+    ensures { λ r. ⌜ r ≡ requestOf call ecx rdx ⌝ }
+{
+    match call {
+        0 => Request::Local(Local::Features),
+        1 => registration_of(ecx),
+        2 => read_of(ecx),
+        3 => write_of(ecx, rdx),
+        4 => permission_of(ecx),
+        _ => Request::Refused(Refusal::UnknownCall),
+    }
+}

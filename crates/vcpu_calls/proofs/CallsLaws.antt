@@ -1,0 +1,96 @@
+-- What the calls' proofs share: an accepted call in the terms of `callOn`, and the EOI by what the search of the set in service finds.
+-- Assumes nothing.
+use mathlib.Core.Path.{_≡_, refl, sym, ap, _∙_}
+use mathlib.Core.Bool.{Bool, false, cond}
+use mathlib.Core.List.{List}
+use mathlib.Core.Option.{Option, none, some}
+use Prim.Native.Nat.{ℕ}
+use Rattle.vector_set.specs.declared.Found.{Found}
+use Rattle.vector_set.specs.declared.Found.the-variants.{Vector, Nothing}
+use Rattle.vector_set.specs.Sets.{has, remove, highest, vectorOf}
+use Rattle.model.specs.declared.Local.{Local}
+use Rattle.model.specs.declared.Local.the-variants as local
+use Rattle.model.specs.declared.Outcome.the-variants as outcome
+use Rattle.model.specs.declared.Phase.{Phase}
+use Rattle.model.specs.declared.Phase.the-variants.{Active}
+use Rattle.model.specs.declared.Refusal.the-variants.{NotActive}
+use Rattle.model.specs.declared.Request.{Request}
+use Rattle.model.specs.declared.Request.the-variants as request
+use Rattle.model.specs.declared.Vcpu.{Vcpu}
+use Rattle.model.specs.State.{isActive, withIsr, withIsrLevel}
+use Rattle.model.specs.Registers.{ended, endedAt, endedLevel, endedLevelAt}
+use Rattle.model.specs.Requests.{Served, forget, serve, requestOf}
+use Rattle.model.specs.Events.{call, Verdict, accept, refuse, need, mayServe, mayCall, vcpuVerdict}
+use Rattle.vcpu.specs.declared.VcpuCalled.{VcpuCalled}
+use Rattle.vcpu_calls.specs.declared.Ended.{Ended}
+use Rattle.vcpu.specs.Records.{CallOut, callOn, calledOut}
+
+-- what a call gives, its parts in the order: number, record, count
+abbrev pub serving : ℕ → Vcpu → ℕ → Served
+serving x w j = record { value = x; vcpu = w; registrations = j }
+
+-- an accepted call p that sends nothing: the answer r gives what `serve` says
+pub served-as : (o p : Local) (i k x j : ℕ) (v w : Vcpu) (r : VcpuCalled) → o ≡ p → mayServe k p ≡ accept
+    → r ≡ record { outcome = outcome.Done x; vcpu = w; registrations = j; sends = false }
+    → serving x w j ≡ serve p i k (forget v)
+    → calledOut r ≡ callOn (mayServe k o) (request.Local o) i k v
+unfolding callOn
+served-as o p i k x j v w r told may gave served =
+    ap calledOut gave
+    ∙ ap out served
+    ∙ sym (ap (λ (g : Verdict). callOn g (request.Local p) i k v) may)
+    ∙ sym (ap (λ (q : Local). callOn (mayServe k q) (request.Local q) i k v) told)
+  where
+    out : Served → CallOut
+    out s = calledOut (record { outcome = outcome.Done (s .value); vcpu = s .vcpu; registrations = s .registrations; sends = false })
+
+-- a registration does not depend on which vCPU asks for it
+pub registered-as : (o : Local) (i k : ℕ) (v : Vcpu) (r : VcpuCalled) → o ≡ local.Register
+    → calledOut r ≡ callOn (mayServe k local.Register) (request.Local local.Register) 0 k v
+    → calledOut r ≡ callOn (mayServe k o) (request.Local o) i k v
+unfolding callOn serve
+registered-as o i k v r told gave =
+    gave
+    ∙ go (mayServe k local.Register)
+    ∙ sym (ap (λ (q : Local). callOn (mayServe k q) (request.Local q) i k v) told)
+  where
+    go : (g : Verdict) → callOn g (request.Local local.Register) 0 k v ≡ callOn g (request.Local local.Register) i k v
+    go accept = refl
+    go (refuse c) = refl
+
+-- ---- what a call's numbers ask for, on the vCPU i with the record v at the count k
+module _ (i k op ecx rdx : ℕ) (v : Vcpu) where
+  abbrev out : Phase → Request → CallOut
+  out p q = callOn (need (isActive p) NotActive (mayCall k q)) q i k v
+
+  -- the vCPU is active, and the request q is p
+  pub asked : (q p : Request) (r : VcpuCalled) → v .phase ≡ Active → q ≡ requestOf op ecx rdx → q ≡ p
+      → calledOut r ≡ callOn (mayCall k p) p i k v
+      → calledOut r ≡ callOn (vcpuVerdict k v (call i op ecx rdx)) (requestOf op ecx rdx) i k v
+  unfolding vcpuVerdict
+  asked q p r active request told gave =
+      gave
+      ∙ ap (out Active) (sym told ∙ request)
+      ∙ sym (ap (λ (f : Phase). out f (requestOf op ecx rdx)) active)
+
+  pub not-asked : (r : VcpuCalled) → isActive (v .phase) ≡ false
+      → r ≡ record { outcome = outcome.Refused NotActive; vcpu = v; registrations = k; sends = false }
+      → calledOut r ≡ callOn (vcpuVerdict k v (call i op ecx rdx)) (requestOf op ecx rdx) i k v
+  unfolding vcpuVerdict callOn
+  not-asked r inactive gave = rw inactive (ap calledOut gave)
+
+-- the EOI where the search found o
+ends : Option ℕ → Vcpu → Ended
+ends o v = record { value = endedLevelAt o (v .«isr_level»); vcpu = endedAt o v }
+
+pub ends-none : (v : Vcpu) (f : Found) → f ≡ Nothing → vectorOf f ≡ highest (v .isr)
+    → _≡_ {A = Ended} (record { value = 0; vcpu = v }) (record { value = endedLevel v; vcpu = ended v })
+unfolding ends ended endedAt endedLevel endedLevelAt
+ends-none v f told found = ap (λ (o : Option ℕ). ends o v) (sym (ap vectorOf told) ∙ found)
+
+-- x ends; s and l are the sets without it, and b says whether it was level-sensitive
+pub ends-some : (v : Vcpu) (x : ℕ) (s l : List ℕ) (b : Bool) (f : Found) → f ≡ Vector x → vectorOf f ≡ highest (v .isr)
+    → s ≡ remove x (v .isr) → l ≡ remove x (v .«isr_level») → b ≡ has (v .«isr_level») x
+    → _≡_ {A = Ended} (record { value = cond b x 0; vcpu = withIsrLevel l (withIsr s v) }) (record { value = endedLevel v; vcpu = ended v })
+unfolding ends ended endedAt endedLevel endedLevelAt
+ends-some v x s l b f told found es el eb = rw (es, el, eb) (ap (λ (o : Option ℕ). ends o v) (sym (ap vectorOf told) ∙ found))

@@ -1,0 +1,205 @@
+// Guest calls on the caller's record and the registration count.
+ghost use mathlib.Core.Path.{_≡_};
+ghost use mathlib.Core.Bool.{cond, false};
+ghost use Prim.Native.Nat.{_-_};
+ghost use lib.Dec.{eqb};
+ghost use Rattle.vector_set.specs.Bits.{bits};
+ghost use Rattle.vector_set.specs.Sets.{insert, remove};
+ghost use Rattle.model.specs.State.{withAllowed, withTpr};
+ghost use Rattle.model.specs.Registers.{ended, endedLevel};
+ghost use Rattle.model.specs.Requests.{forget, leaveIf, requestOf};
+ghost use Rattle.model.specs.Events.{Event, Verdict, accept, mayServe, vcpuVerdict};
+ghost use Rattle.vcpu.specs.Records.{callOn, calledOut};
+use model::InFlight;
+use model::Item;
+use model::Local;
+use model::Outcome;
+use model::Phase;
+use model::Refusal;
+use model::Request;
+use model::Vcpu;
+use vcpu::VcpuCalled;
+use vcpu::notices;
+use vcpu::records;
+use vector_set::Found;
+
+// An accepted call that sends nothing.
+fn done(value: u64, vcpu: Vcpu, registrations: u8) -> VcpuCalled
+    ensures { λ r. ⌜ r ≡ record { outcome = Outcome.Done value; vcpu = vcpu; registrations = registrations; sends = false } ⌝ }
+{
+    VcpuCalled {
+        outcome: Outcome::Done(value),
+        vcpu,
+        registrations,
+        sends: false,
+    }
+}
+
+fn refused(c: Refusal, vcpu: Vcpu, registrations: u8) -> VcpuCalled
+    ensures { λ r. ⌜ r ≡ record { outcome = Outcome.Refused c; vcpu = vcpu; registrations = registrations; sends = false } ⌝ }
+{
+    VcpuCalled {
+        outcome: Outcome::Refused(c),
+        vcpu,
+        registrations,
+        sends: false,
+    }
+}
+
+// The number that an EOI gives, and the record after it.
+pub struct Ended {
+    pub value: u64,
+    pub vcpu: Vcpu,
+}
+
+// The highest vector in service ends; the value names it if it was level-sensitive.
+fn end_vcpu(v: Vcpu) -> Ended
+    ensures { λ r. ⌜ r ≡ record { value = endedLevel v; vcpu = ended v } ⌝ }
+{
+    let isr = v.isr;
+    let isr_level = v.isr_level;
+    let Found::Vector(x) = vector_set::highest_of(isr) else {
+        return Ended { value: 0, vcpu: v };
+    };
+    let service = vector_set::remove(isr, x);
+    let service_level = vector_set::remove(isr_level, x);
+    let mut w = v;
+    w.isr = service;
+    w.isr_level = service_level;
+    if vector_set::contains(isr_level, x) {
+        return Ended {
+            value: x as u64,
+            vcpu: w,
+        };
+    }
+    Ended { value: 0, vcpu: w }
+}
+
+fn leave_at(v: Vcpu, registrations: u8) -> Vcpu
+    ensures { λ r. ⌜ r ≡ leaveIf (eqb registrations 0) v ⌝ }
+{
+    if registrations == 0 {
+        return records::with_phase(v, Phase::Leaving);
+    }
+    v
+}
+
+// One registration less; none less than 0.
+fn released(registrations: u8) -> u8
+    ensures { λ r. ⌜ r ≡ registrations - 1 ⌝ }
+{
+    if registrations == 0 {
+        return 0;
+    }
+    registrations - 1
+}
+
+// One registration more, where there is at least one and there are at most 254.
+fn register(v: Vcpu, registrations: u8) -> VcpuCalled
+    ensures { λ r. ⌜ calledOut r ≡ callOn (mayServe registrations Local.Register) (Request.Local Local.Register) 0 registrations v ⌝ }
+{
+    if registrations == 0 {
+        return refused(Refusal::NotRegistered, v, registrations);
+    }
+    if registrations == 255 {
+        return refused(Refusal::RegistrationsFull, v, registrations);
+    }
+    done(
+        0,
+        records::with_flight(v, InFlight::Nothing),
+        registrations + 1,
+    )
+}
+
+fn permit(v: Vcpu, x: u8, allow: bool) -> Vcpu
+    ensures { λ r. ⌜ r ≡ withAllowed (cond allow (insert x (v .allowed)) (remove x (v .allowed))) v ⌝ }
+{
+    let allowed = v.allowed;
+    let mut w = v;
+    if allow {
+        let more = vector_set::insert(allowed, x);
+        w.allowed = more;
+        return w;
+    }
+    let less = vector_set::remove(allowed, x);
+    w.allowed = less;
+    w
+}
+
+// The bit of a vCPU in the result of an IPI.
+fn bit_of(id: u32) -> u64
+    ensures { λ r. ⌜ r ≡ bits (λ j. eqb j id) 0 32 ⌝ }
+{
+    if 32 <= id {
+        return 0;
+    }
+    1 << id
+}
+
+fn set_tpr(v: Vcpu, x: u8) -> Vcpu
+    ensures { λ r. ⌜ r ≡ withTpr x v ⌝ }
+{
+    let mut w = v;
+    w.tpr = x;
+    w
+}
+
+// A call that touches the caller's record and the count alone.
+fn serve_local(v: Vcpu, id: u32, registrations: u8, o: Local) -> VcpuCalled
+    ensures { λ r. ⌜ calledOut r ≡ callOn (mayServe registrations o) (Request.Local o) id registrations v ⌝ }
+{
+    let w = records::with_flight(v, InFlight::Nothing);
+    match o {
+        Local::Features => done(0, w, registrations),
+        Local::Leave => done(0, leave_at(w, registrations), registrations),
+        Local::Release => {
+            let left = released(registrations);
+            done(0, leave_at(w, left), left)
+        }
+        Local::Register => register(v, registrations),
+        Local::Allow(x) => done(0, permit(w, x, true), registrations),
+        Local::Disallow(x) => done(0, permit(w, x, false), registrations),
+        Local::Read(r) => done(apic::register_value(w, id, r), w, registrations),
+        Local::SetTpr(x) => done(0, set_tpr(w, x), registrations),
+        Local::Eoi => {
+            let e = end_vcpu(w);
+            let u = e.vcpu;
+            done(e.value, u, registrations)
+        }
+        Local::SelfIpi(x) => done(
+            bit_of(id),
+            notices::post_item(w, Item::Vector(x)),
+            registrations,
+        ),
+    }
+}
+
+// The value of an ICR write is stored; whom it reaches is the module's to say.
+fn store_icr(v: Vcpu, registrations: u8, x: u64) -> VcpuCalled
+    ensures { λ r. ⌜ calledOut r ≡ callOn accept (Request.Icr x) 0 registrations v ⌝ }
+{
+    let mut w = records::with_flight(v, InFlight::Nothing);
+    w.icr = x;
+    VcpuCalled {
+        outcome: Outcome::Done(0),
+        vcpu: w,
+        registrations,
+        sends: true,
+    }
+}
+
+// A guest call of the vCPU id.
+pub fn call_vcpu(v: Vcpu, id: u32, registrations: u8, call: u32, ecx: u32, rdx: u64) -> VcpuCalled
+    ensures { λ r. ⌜ calledOut r ≡ callOn (vcpuVerdict registrations v (Event.call id call ecx rdx)) (requestOf call ecx rdx) id registrations v ⌝ }
+{
+    let phase = v.phase;
+    let Phase::Active = phase else {
+        return refused(Refusal::NotActive, v, registrations);
+    };
+    let request = requests::request_of(call, ecx, rdx);
+    match request {
+        Request::Local(o) => serve_local(v, id, registrations, o),
+        Request::Icr(x) => store_icr(v, registrations, x),
+        Request::Refused(c) => refused(c, v, registrations),
+    }
+}

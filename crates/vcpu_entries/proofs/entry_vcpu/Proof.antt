@@ -1,0 +1,76 @@
+-- `vcpu_entries::entry_vcpu` meets its contract, by the phase and by what was offered. Assumes nothing.
+use mathlib.Core.Path.{_≡_, sym, ap, ap₂, _∙_}
+use mathlib.Core.Bool.{Bool, false}
+use borrow.Author.Needs.{needs}
+use Rattle.model.specs.declared.Phase.{Phase}
+use Rattle.model.specs.declared.Phase.the-variants.{Active}
+use Rattle.model.specs.declared.Refusal.the-variants.{NotActive}
+use Rattle.model.specs.declared.InFlight.{InFlight}
+use Rattle.model.specs.declared.Presentation.{Presentation}
+use Rattle.model.specs.declared.Presentation.the-variants as shown
+use Rattle.model.specs.declared.Vcpu.{Vcpu}
+use Rattle.model.specs.State.{isActive}
+use Rattle.model.specs.Codes.{refused, codeOf, presentedResult}
+use Rattle.model.specs.Events.{entry, accept, need, vcpuVerdict, Offer, offer, offered, present}
+use Rattle.vcpu.specs.Records.{entryOn}
+use Rattle.vcpu.proofs.Told.{not-active}
+use Rattle.vcpu_entries.proofs.Told.{outOf, flightIn, flight-in, none-shown}
+use Rattle.vcpu_entries.proofs.entry_vcpu.Statement.{statement}
+use Rattle.vcpu_entries.proofs.entry_vcpu.Tie as tie
+
+refusing : (iF sh bl : Bool) (v : Vcpu) (o : Offer) → isActive (v .phase) ≡ false
+    → outOf (refused (codeOf NotActive)) v ≡ entryOn (vcpuVerdict 0 v (entry 0 iF sh bl)) o v
+unfolding entryOn vcpuVerdict
+refusing iF sh bl v o h = ap (λ (b : Bool). entryOn (need b NotActive accept) o v) (sym h)
+
+-- the answer r, that of the offer, and the record that it puts in flight
+entered : (iF sh bl : Bool) (v w : Vcpu) (r : Presentation) → v .phase ≡ Active → presentedResult r ≡ offered (offer iF sh bl v)
+    → w ≡ present (flightIn (presentedResult r)) v → outOf (presentedResult r) w ≡ entryOn (vcpuVerdict 0 v (entry 0 iF sh bl)) (offer iF sh bl v) v
+unfolding entryOn vcpuVerdict
+entered iF sh bl v w r g e h =
+    ap₂ outOf e (h ∙ ap (λ (f : InFlight). present f v) (ap flightIn e ∙ flight-in (offer iF sh bl v)))
+    ∙ ap (λ (p : Phase). entryOn (need (isActive p) NotActive accept) (offer iF sh bl v) v) (sym g)
+
+returns : tie.Need-returns
+returns c =
+    let a = c .before .args in
+    refusing (a .iflag) (a .shadow) (a .blocked) (a .v) _ (not-active (a .v .phase) (c .match .keys2))
+
+returns-2 : tie.Need-returns-2
+returns-2 c =
+    let d = c .before .before .before in
+    let a = d .before .before .before .args in
+    entered (a .iflag) (a .shadow) (a .blocked) (a .v) (c .present-nmi .result) (d .offer-of .result) (d .before .enum-told .given .1) (d .offer-of .ensures)
+    (c .present-nmi .ensures ∙ ap (λ (r : Presentation). present (flightIn (presentedResult r)) (a .v)) (sym (c .before .enum-told2 .given .1)))
+
+returns-3 : tie.Need-returns-3
+returns-3 c =
+    let t = c .before .before .presentation .given in
+    let d = c .before .before .before .before in
+    let a = d .before .before .before .args in
+    entered (a .iflag) (a .shadow) (a .blocked) (a .v) (c .present-vector .result) (shown.Vector (t .0 .0)) (d .before .enum-told .given .1)
+    (ap presentedResult (sym (t .1)) ∙ d .offer-of .ensures) (c .present-vector .ensures)
+
+returns-4 : tie.Need-returns-4
+unfolding present
+returns-4 c =
+    let d = c .before .before in
+    let a = d .before .before .before .args in
+    entered (a .iflag) (a .shadow) (a .blocked) (a .v) (c .with-flight .result) (d .offer-of .result) (d .before .enum-told .given .1) (d .offer-of .ensures)
+    (c .with-flight .ensures ∙ ap (λ (f : InFlight). present f (a .v)) (sym (none-shown (d .offer-of .result) (c .before .match2 .keys3))))
+
+pub entry-vcpu-spec : {M : Type 1} → statement M
+entry-vcpu-spec =
+    tie.close
+    (tie.spec
+    (λ c. search needs)
+    returns
+    (λ c κs. search needs)
+    (λ c. search needs)
+    (λ c κs. search needs)
+    (λ c. search needs)
+    (λ c κs. search needs)
+    (λ c κs. search needs)
+    returns-2
+    returns-3
+    returns-4)

@@ -1,0 +1,12 @@
+-- `vcpu_entries::present_nmi` meets its contract. Assumes nothing.
+use borrow.Author.Needs.{needs}
+use Rattle.model.specs.Events.{present}
+use Rattle.vcpu_entries.proofs.present_nmi.Statement.{statement}
+use Rattle.vcpu_entries.proofs.present_nmi.Tie as tie
+
+returns : tie.Need-returns
+unfolding present
+returns c = c .with-flight .ensures
+
+pub present-nmi-spec : {M : Type 1} → statement M
+present-nmi-spec = tie.close (tie.spec (λ c κs. search needs) returns)

@@ -1,0 +1,27 @@
+-- `vcpu_entries::present_vector` meets its contract, by the four sets. Assumes nothing.
+use mathlib.Core.Path.{_∙_}
+use borrow.Author.Needs.{needs}
+use Rattle.model.specs.declared.InFlight.the-variants.{Vector}
+use Rattle.model.specs.Events.{present}
+use Rattle.vcpu_entries.proofs.Sets.{same-sets}
+use Rattle.vcpu_entries.proofs.present_vector.Statement.{statement}
+use Rattle.vcpu_entries.proofs.present_vector.Tie as tie
+
+returns : tie.Need-returns
+unfolding present
+returns c =
+    let d = c .before .before .before .before in
+    let a = d .before .before .before .before .before .args in
+    c .with-flight .ensures
+    ∙ same-sets (Vector (a .x)) (a .v) (d .remove .ensures) (c .before .before .before .insert .ensures) (c .before .before .remove2 .ensures) (c .before .gain .ensures)
+
+pub present-vector-spec : {M : Type 1} → statement M
+present-vector-spec =
+    tie.close
+    (tie.spec
+    (λ c κs. search needs)
+    (λ c κs. search needs)
+    (λ c κs. search needs)
+    (λ c κs. search needs)
+    (λ c κs. search needs)
+    returns)

@@ -1,0 +1,159 @@
+// Entry and non-delivery on one record.
+ghost use mathlib.Core.Path.{_≡_};
+ghost use Rattle.model.specs.Codes.{presentedResult};
+ghost use Rattle.vector_set.specs.Sets.{highest};
+ghost use Rattle.model.specs.Registers.{ppr};
+ghost use Rattle.model.specs.Events.{Event, offerHighest, offer, offered, present, giveBack, gains, vcpuVerdict};
+ghost use Rattle.vcpu.specs.Records.{entryOn, nonDeliveryOn, steppedOut, enteredVcpu};
+use model::InFlight;
+use model::Outcome;
+use model::Phase;
+use model::Presentation;
+use model::Refusal;
+use model::Vcpu;
+use vcpu::VcpuEntered;
+use vcpu::VcpuStepped;
+use vcpu::records;
+use vector_set::Found;
+
+// The set t, with x if s has x.
+fn gain(x: u8, s: [u32; 8], t: [u32; 8]) -> [u32; 8]
+    ensures { λ r. ⌜ r ≡ gains x s t ⌝ }
+{
+    if vector_set::contains(s, x) {
+        return vector_set::insert(t, x);
+    }
+    t
+}
+
+// The highest pending vector, where it is above the processor priority.
+fn offer_vector(v: Vcpu, ready: bool) -> Presentation
+    ensures { λ r. ⌜ presentedResult r ≡ offered (offerHighest ready (ppr v) (highest (v .irr))) ⌝ }
+{
+    let irr = v.irr;
+    let isr = v.isr;
+    let Found::Vector(x) = vector_set::highest_of(irr) else {
+        return Presentation::Nothing;
+    };
+    let p = apic::ppr(v.tpr, isr);
+    if x / 16 <= p / 16 {
+        return Presentation::Nothing;
+    }
+    if ready {
+        return Presentation::Vector(x);
+    }
+    Presentation::Window(x)
+}
+
+// What an entry offers the guest.
+fn offer_of(v: Vcpu, iflag: bool, shadow: bool, blocked: bool) -> Presentation
+    ensures { λ r. ⌜ presentedResult r ≡ offered (offer iflag shadow blocked v) ⌝ }
+{
+    if shadow {
+        return offer_vector(v, false);
+    }
+    if blocked {
+        return offer_vector(v, iflag);
+    }
+    if v.nmi {
+        return Presentation::Nmi;
+    }
+    offer_vector(v, iflag)
+}
+
+fn present_nmi(v: Vcpu) -> Vcpu
+    ensures { λ r. ⌜ r ≡ present InFlight.Nmi v ⌝ }
+{
+    let mut w = v;
+    w.nmi = false;
+    records::with_flight(w, InFlight::Nmi)
+}
+
+// The vector moves from the IRR to the ISR, its level mark with it.
+fn present_vector(v: Vcpu, x: u8) -> Vcpu
+    ensures { λ r. ⌜ r ≡ present (InFlight.Vector x) v ⌝ }
+{
+    let irr = v.irr;
+    let isr = v.isr;
+    let irr_level = v.irr_level;
+    let isr_level = v.isr_level;
+    let pending = vector_set::remove(irr, x);
+    let service = vector_set::insert(isr, x);
+    let pending_level = vector_set::remove(irr_level, x);
+    let service_level = gain(x, irr_level, isr_level);
+    let mut w = v;
+    w.irr = pending;
+    w.isr = service;
+    w.irr_level = pending_level;
+    w.isr_level = service_level;
+    records::with_flight(w, InFlight::Vector(x))
+}
+
+pub fn entry_vcpu(v: Vcpu, iflag: bool, shadow: bool, blocked: bool) -> VcpuEntered
+    ensures { λ r. ⌜ enteredVcpu r ≡ entryOn (vcpuVerdict 0 v (Event.entry 0 iflag shadow blocked)) (offer iflag shadow blocked v) v ⌝ }
+{
+    let phase = v.phase;
+    let Phase::Active = phase else {
+        return VcpuEntered {
+            presentation: Presentation::Refused(Refusal::NotActive),
+            vcpu: v,
+        };
+    };
+    let presentation = offer_of(v, iflag, shadow, blocked);
+    let vcpu = match presentation {
+        Presentation::Nmi => present_nmi(v),
+        Presentation::Vector(x) => present_vector(v, x),
+        _ => records::with_flight(v, InFlight::Nothing),
+    };
+    VcpuEntered { presentation, vcpu }
+}
+
+// The vector moves back from the ISR to the IRR, its level mark with it.
+fn return_vector(v: Vcpu, x: u8) -> Vcpu
+    ensures { λ r. ⌜ r ≡ giveBack (InFlight.Vector x) v ⌝ }
+{
+    let irr = v.irr;
+    let isr = v.isr;
+    let irr_level = v.irr_level;
+    let isr_level = v.isr_level;
+    let pending = vector_set::insert(irr, x);
+    let service = vector_set::remove(isr, x);
+    let pending_level = gain(x, isr_level, irr_level);
+    let service_level = vector_set::remove(isr_level, x);
+    let mut w = v;
+    w.irr = pending;
+    w.isr = service;
+    w.irr_level = pending_level;
+    w.isr_level = service_level;
+    records::with_flight(w, InFlight::Nothing)
+}
+
+fn return_nmi(v: Vcpu) -> Vcpu
+    ensures { λ r. ⌜ r ≡ giveBack InFlight.Nmi v ⌝ }
+{
+    let mut w = v;
+    w.nmi = true;
+    records::with_flight(w, InFlight::Nothing)
+}
+
+fn returned(vcpu: Vcpu) -> VcpuStepped
+    ensures { λ r. ⌜ r ≡ record { outcome = Outcome.Done 0; vcpu = vcpu } ⌝ }
+{
+    let outcome = Outcome::Done(0);
+    VcpuStepped { outcome, vcpu }
+}
+
+pub fn non_delivery_vcpu(v: Vcpu) -> VcpuStepped
+    ensures { λ r. ⌜ steppedOut r ≡ nonDeliveryOn (vcpuVerdict 0 v (Event.nonDelivery 0)) (v .flight) v ⌝ }
+{
+    let phase = v.phase;
+    let Phase::Active = phase else {
+        return records::refused(v, Refusal::NotActive);
+    };
+    let flight = v.flight;
+    match flight {
+        InFlight::Nothing => records::refused(v, Refusal::NothingInFlight),
+        InFlight::Nmi => returned(return_nmi(v)),
+        InFlight::Vector(x) => returned(return_vector(v, x)),
+    }
+}

@@ -1,0 +1,67 @@
+-- An event with a page, by its two tests: whether the phase is right, and whether the page is long enough.
+-- Assumes nothing.
+use mathlib.Core.Path.{_≡_, refl, ap, _∙_}
+use mathlib.Core.Bool.{Bool, true, false}
+use mathlib.Core.List.{List, [], _∷_}
+use mathlib.Core.Logic.{inl, inr}
+use Prim.Native.Nat.{ℕ}
+use types.Run.{OneOf}
+use denote.Enum.Declared.{tagOf}
+use Rattle.model.proofs.Phase as phase
+use Rattle.model.specs.declared.Admitted.{Admitted}
+use Rattle.model.specs.declared.Phase.{Phase}
+use Rattle.model.specs.declared.Phase.the-variants.{Active, Leaving, Left}
+use Rattle.model.specs.declared.Refusal.{Refusal}
+use Rattle.model.specs.declared.Refusal.the-variants.{ShortPage}
+use Rattle.model.specs.State.{isLeaving}
+use Rattle.model.specs.Doorbell.{longEnough, Part, partOf, items}
+use Rattle.model.specs.Codes.{codeOf, done, refused}
+use Rattle.model.specs.Events.{Verdict, accept, refuse}
+use Rattle.doorbell.specs.Served.{takenPart, takenPage, Taken}
+use Rattle.vcpu.specs.Records.{pageOn}
+use Rattle.vcpu_pages.specs.Pages.{pageVerdict, TakenOut, refusedNotice, takeOn, HandedOut, handOn}
+use Rattle.vector_set.specs.Laws.{clash}
+
+-- a phase that is not the second
+pub not-leaving : (p : Phase) → OneOf (0 ∷ 2 ∷ []) (tagOf phase.the-type p) → isLeaving p ≡ false
+not-leaving Active e = refl
+not-leaving Leaving (inl e) = clash (cc)
+not-leaving Leaving (inr e) = clash (cc)
+not-leaving Left e = refl
+
+-- ---- the verdict
+module _ (c : Refusal) (p : List ℕ) {b : Bool} where
+  pub wrong-phase : b ≡ false → pageVerdict b c p ≡ refuse c
+  wrong-phase e = rw e
+
+  pub short-page : b ≡ true → longEnough p ≡ false → pageVerdict b c p ≡ refuse ShortPage
+  short-page e s = rw (e, s)
+
+  pub right : b ≡ true → longEnough p ≡ true → pageVerdict b c p ≡ accept
+  right e s = rw (e, s)
+
+-- ---- the answer and the page q after the event, by the verdict g
+module _ {g : Verdict} (p q : List ℕ) where
+  pub refuses-notice : (a : Part) (o : TakenOut) (c : Refusal) → g ≡ refuse c → o ≡ refusedNotice c → (o ≡ takeOn g a) × (p ≡ pageOn g q p)
+  unfolding takeOn pageOn
+  refuses-notice a o c e f = (rw e f, rw e)
+
+  pub refuses-hand-back : (n : ℕ) (c : Refusal) → g ≡ refuse c
+      → (_≡_ {A = HandedOut} (record { result = refused (codeOf c); isRefused = true }) (handOn g n)) × (p ≡ pageOn g q p)
+  unfolding handOn pageOn
+  refuses-hand-back n c e = (rw e, rw e)
+
+  pub hands-back : (n x : ℕ) (r : List ℕ) → g ≡ accept → x ≡ n → r ≡ q
+      → (_≡_ {A = HandedOut} (record { result = done x; isRefused = false }) (handOn g n)) × (r ≡ pageOn g q p)
+  unfolding handOn pageOn
+  hands-back n x r e f h = (rw e (ap (λ (y : ℕ). record { result = done y; isRefused = false }) f), rw e h)
+
+pub takes-notice : {g : Verdict} (l : ℕ) (s p q : List ℕ) (a : Admitted) (n : ℕ) → g ≡ accept → Taken l s p (partOf a) q → n ≡ items (partOf a)
+    → (_≡_ {A = TakenOut} (record { result = done n; isRefused = false; part = partOf a }) (takeOn g (takenPart l s p))) × (q ≡ pageOn g (takenPage l p) p)
+unfolding takeOn pageOn
+takes-notice l s p q a n e t f = (
+  rw e
+      (ap (λ (x : ℕ). record { result = done x; isRefused = false; part = partOf a }) f
+      ∙ ap (λ (y : Part). record { result = done (items y); isRefused = false; part = y }) (t .part)),
+  rw e (t .page),
+)

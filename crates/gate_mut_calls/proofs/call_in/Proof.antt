@@ -1,4 +1,4 @@
--- `gate_mut_calls::call_in` meets its contract: a walk of its MIR.
+-- `gate_mut_calls::call_in` meets its contract: a walk over the pieces of `face_kit`; the count is stored beside the record, and the module is handed on to `send_in`.
 -- Assumes nothing.
 use Rattle.face_kit.proofs.Walk.{_≡_, refl, sym, ap, not, [], _∷_, ℕ, _<_, _^_, Holds, URA, w8, w32, w64, vint, vptr, ent, GName, Lft, Share, Heap, WpFn, Tables, Atoms, givenOf, tables, tablesOf, Given, ⋆, _$_, _∵_, !, qed}
 use Rattle.face_kit.proofs.Walk.{look, init, stop, hop, fld, from, load, lit, addr, of-opd, and-then, no-more, land, enter, params1, pass1, pass0, agg, whole, sub, look-in, open-ref, fmOf, mem, uint-vals, uint-tells, uint-makes, u8, u32, u64, plain, yes, Contract, Triple, tripleOf, entered, cited}

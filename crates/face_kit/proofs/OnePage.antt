@@ -1,5 +1,6 @@
 -- The shape of a thin function with a page: the vCPU's number is tested, the record is copied out, the page is handled beside it, and unless that refuses, the record is stepped by value and stored.
 --     Paged                  what a walk needs of the struct that the page's function gives: its machine value, whether the event is refused, and the answer
+--     paged                  it, from the laws of the struct
 --     to-head, to-locals     the context of a function with n parameters after the page, from the order of its locals to that of `on-page`, and back
 --     on-page                the walk, for every such function: its locals stand anywhere, and its other parameters are any plain data
 -- The head of the context is that of `Served.antt`, and then [the page; its token; page; what its function gives; the record after the step; the page's address; the page lent anew; ..]
@@ -28,6 +29,8 @@ use denote.Builtin.{u8}
 use denote.Signature.{Slot, plain, typesAt}
 use denote.Slice.{Room, sliceTy, sliceVal}
 use denote.Exit.{yes}
+use denote.Struct.Declared.{Declared}
+use denote.Struct.Declared as decl
 use denote.Struct.Laws as LL
 use denote.Triple.End.{Kepts}
 use denote.Triple.Statement.{Triple}
@@ -41,7 +44,7 @@ use Rattle.model.proofs.Vcpu as R
 use Rattle.model.proofs.Vcpu.Laws as R′
 use Rattle.face_kit.proofs.Frame.{guards, ValueContract, asks}
 use Rattle.face_kit.proofs.Lens.{machV, typedV, vmpl-of}
-use Rattle.face_kit.proofs.OneRecord.{upFrom}
+use Rattle.face_kit.proofs.OneRecord.{upFrom, struct-typed}
 use Rattle.face_kit.proofs.Page.{lent, spent, PageContract, asks-page}
 use Rattle.face_kit.proofs.Record.{Stands, reads-at, var-at, sets-at, resets-at, lands-at, copy-out, store-back, fresh, copied, settled-at, copies, stores}
 use Rattle.face_kit.proofs.Served.{Served, has-record, begins, untold, told, unknown-at, refused-at, tells}
@@ -75,6 +78,11 @@ pub record Paged (S : RattleType) (σ ρ : Ty) : Type 1 where
   pub refused : S .Denot → Bool
   pub answer : S .Denot → Val
   pub answer-typed : (r : S .Denot) → Is S r (val r ∷ []) → Holds (hasTy ρ (answer r)) × WT (answer r)
+
+-- of a declared struct with the laws L
+abbrev pub paged : {M : Type 1} (𝓤 : URA M) (H : Heap 𝓤) (A : Atoms 𝓤) (W : Given 𝓤 H A) (D : Declared) (L : LL.Laws D) {σ ρ : Ty} → decl.row D .mir ≡ σ ∷ [] → (D .D → Bool)
+    → (answer : D .D → Val) → ((r : D .D) → Is (decl.row D) r (LL.vals D L r) → Holds (hasTy ρ (answer r)) × WT (answer r)) → Paged (decl.row D) σ ρ
+paged 𝓤 H A W D L σ-is refused a a-typed = record { val = LL.val D L; spells = LL.tells D L; typed = struct-typed 𝓤 H A W D L σ-is; refused = refused; answer = a; answer-typed = a-typed }
 
 abbrev lentTy : Ty
 lentTy = tyRef erased mut (tyInt w8)

@@ -1,11 +1,12 @@
 -- The shape of a thin function that steps one record by value: the vCPU's number is tested, the record is copied out, stepped and stored, and the step's answer is given.
 --     StepContract           the contract of a by-value step `step(v: Vcpu, ..) -> { answer, vcpu }`
 --     Answered               what a walk needs of the struct that the step gives: its machine value, and its two fields
+--     answered               it, from the laws of the struct
 --     to-head, to-locals     the context of a function with n parameters after the vCPU's number, from the order of its locals to that of `on-record`, and back
 --     on-record              the walk, for every such function: its locals stand anywhere, and its other parameters are any plain data
 -- The head of the context is that of `Served.antt`, and then [the step's answer; ..]
 -- Assumes `Given`.
-use mathlib.Core.Path.{refl}
+use mathlib.Core.Path.{_≡_, refl, subst}
 use mathlib.Core.List.{List, [], _∷_}
 use mathlib.Core.Option.{none, some as full}
 use Prim.Native.Nat.{ℕ, zero, suc, _+_, _<_, _≤_, _^_}
@@ -21,9 +22,11 @@ use sound.WpLaws.{fmOf}
 use types.Kit.{Given, Item, ‵, Post, post, anyQ, runs, Seq, _$_}
 use types.Run.{Opds, Rv}
 use denote.RattleType.{RattleType, Denots, Valss, flat}
-use denote.Laws.{Is, Ises, Are, Tells, Makess}
+use denote.Laws.{Typed, Is, Ises, Are, Tells, Makess}
 use denote.Signature.{Slot, plain, typesAt}
 use denote.Exit.{yes}
+use denote.Struct.Declared.{Declared}
+use denote.Struct.Declared as decl
 use denote.Struct.Laws as LL
 use denote.Triple.End.{Kepts}
 use denote.Triple.Statement.{Contract, Triple}
@@ -63,6 +66,15 @@ pub record Answered (S : RattleType) (σ ρ : Ty) : Type 1 where
   pub vcpu-is : (r : S .Denot) → Is S r (val r ∷ []) → Is R.the-row (vcpu r) (machV (vcpu r) ∷ [])
   pub answer : S .Denot → Val
   pub answer-typed : (r : S .Denot) → Is S r (val r ∷ []) → Holds (hasTy ρ (answer r)) × WT (answer r)
+
+-- of a declared struct with the laws L
+module _ {M : Type 1} (𝓤 : URA M) (H : Heap 𝓤) (A : Atoms 𝓤) (W : Given 𝓤 H A) (D : Declared) (L : LL.Laws D) {σ : Ty} (σ-is : decl.row D .mir ≡ σ ∷ []) where
+  pub struct-typed : (r : D .D) → Is (decl.row D) r (LL.vals D L r) → Holds (hasTy σ (LL.val D L r)) × WT (LL.val D L r)
+  struct-typed r is = subst (λ (τs : List Ty). Typed τs (LL.vals D L r)) σ-is (LL.lawful D L 𝓤 H A W .typed r _ is) .0
+
+  abbrev pub answered : {ρ : Ty} (vcpu : D .D → Vcpu) → ((r : D .D) → Is (decl.row D) r (LL.vals D L r) → Is R.the-row (vcpu r) (machV (vcpu r) ∷ []))
+      → (answer : D .D → Val) → ((r : D .D) → Is (decl.row D) r (LL.vals D L r) → Holds (hasTy ρ (answer r)) × WT (answer r)) → Answered (decl.row D) σ ρ
+  answered v v-is a a-typed = record { val = LL.val D L; spells = LL.tells D L; typed = struct-typed; vcpu = v; vcpu-is = v-is; answer = a; answer-typed = a-typed }
 
 module _ (ss : List (Slot 0)) (ks : Kepts ss) (res : Slot 0) (φ : Denots (typesAt (plain (λ _. R.the-row) ∷ ss) tt) → res .row tt .Denot → Type 0) where
   abbrev pub StepContract : {M : Type 1} (𝓤 : URA M) (H : Heap 𝓤) (A : Atoms 𝓤) → Contract 𝓤

@@ -33,7 +33,7 @@ use Rattle.face_kit.proofs.Answers.{machP, typedP, makesP, unknownP}
 use Rattle.face_kit.proofs.Face.{held, After, leaves, face}
 use Rattle.face_kit.proofs.Frame.{allocates, var}
 use Rattle.face_kit.proofs.Lens.{knows-module}
-use Rattle.face_kit.proofs.OneRecord.{StepContract, Answered, to-head, to-locals, on-record}
+use Rattle.face_kit.proofs.OneRecord.{StepContract, Answered, answered, to-head, to-locals, on-record}
 use Rattle.face_kit.proofs.Served.{Served}
 use Rattle.gate_mut_entries.proofs.entry_in.Key.{name as #on}
 use Rattle.gate_mut_entries.proofs.entry_in as on
@@ -62,21 +62,12 @@ abbrev Stepped : Vcpu × (Bool × (Bool × (Bool × Unit {0}))) → VcpuEntered 
 Stepped a r = Answer (a .0) (a .1 .0) (a .1 .1 .0) (a .1 .1 .1 .0) r
 
 module _ {M : Type 1} (𝓤 : URA M) (H : Heap 𝓤) (A : Atoms 𝓤) (W : Given 𝓤 H A) where
-  stepped : Answered S.the-row S′.mir P′.mir
-  stepped = record {
-    val = LL.val S.the-type S′.the-laws;
-    spells = LL.tells S.the-type S′.the-laws;
-    typed = λ r is. LL.lawful S.the-type S′.the-laws 𝓤 H A W .typed r _ is .0;
-    vcpu = λ r. r .vcpu;
-    vcpu-is = λ r is. LL.owed S.the-type S′.the-laws r _ is .1 .0;
-    answer = λ r. machP (r .presentation);
-    answer-typed = λ r is. typedP 𝓤 H A W (r .presentation) (LL.owed S.the-type S′.the-laws r _ is .0);
-  }
+  abbrev stepped : Answered S.the-row S′.mir P′.mir
+  stepped = answered 𝓤 H A W S.the-type S′.the-laws refl (λ r. r .vcpu) (λ r is. LL.owed S.the-type S′.the-laws r _ is .1 .0) (λ r. machP (r .presentation)) (λ r is. typedP 𝓤 H A W (r .presentation) (LL.owed S.the-type S′.the-laws r _ is .0))
 
   module _ (𝓣 : Tables 𝓤 H) (size-known : Triple 𝓤 (𝓣 .C #size) (Served 𝓤 H A)) (step-known : Triple 𝓤 (𝓣 .C #step) (StepContract ss (yes, (yes, (yes, tt))) (plain (λ _. S.the-row)) Stepped 𝓤 H A))
       (κ : Lft) (q : Share) (b o : ℕ) (γ : GName) (h : Module) (i : ℕ) (i-fits : i < 2 ^ 32) (x y z : Bool) where
     walk : ent 𝓤 (⋆ 𝓤 H A (held 𝓤 H A κ q b o γ h)) (WpFn 𝓤 H (𝓣 .C) (𝓣 .Λ) code.function (vptr b o ∷ vint w32 i ∷ vbool x ∷ vbool y ∷ vbool z ∷ []) (After 𝓤 H A κ q b o γ P.the-row (Says h i x y z)))
-    unfolding stepped
     walk =
         qed W (held 𝓤 H A κ q b o γ h) ∵ enter ! (𝓣 .C) (𝓣 .Λ) code.function (vptr b o ∷ vint w32 i ∷ vbool x ∷ vbool y ∷ vbool z ∷ []) _ $ allocates ! (λ bs. params1 ! $ pass1 ! (init ! 4 refl (tt, tt)) $ pass1 ! (init ! 5 refl (tt, record { fits = i-fits })) $ pass1 ! (init ! 6 refl (tt, tt)) $ pass1 ! (init ! 7 refl (tt, tt)) $ pass1 ! (init ! 8 refl (tt, tt)) $ pass0 ! $
         open-ref ! tt (mem T.the-row) {b = b} {o = o} $ knows-module ! h b o (λ is-h. move ! (to-head 3) $

@@ -31,7 +31,7 @@ use Rattle.face_kit.proofs.Answers.{machO, typedO, makesO, unknownO}
 use Rattle.face_kit.proofs.Face.{held, After, leaves, face}
 use Rattle.face_kit.proofs.Frame.{allocates, var}
 use Rattle.face_kit.proofs.Lens.{knows-module}
-use Rattle.face_kit.proofs.OneRecord.{StepContract, Answered, to-head, to-locals, on-record}
+use Rattle.face_kit.proofs.OneRecord.{StepContract, Answered, answered, to-head, to-locals, on-record}
 use Rattle.face_kit.proofs.Served.{Served}
 use Rattle.gate_mut_entries.proofs.non_delivery_in.Key.{name as #on}
 use Rattle.gate_mut_entries.proofs.non_delivery_in as on
@@ -57,21 +57,12 @@ abbrev Stepped : Vcpu × Unit {0} → VcpuStepped → Type 0
 Stepped a r = Answer (a .0) r
 
 module _ {M : Type 1} (𝓤 : URA M) (H : Heap 𝓤) (A : Atoms 𝓤) (W : Given 𝓤 H A) where
-  stepped : Answered S.the-row S′.mir O′.mir
-  stepped = record {
-    val = LL.val S.the-type S′.the-laws;
-    spells = LL.tells S.the-type S′.the-laws;
-    typed = λ r is. LL.lawful S.the-type S′.the-laws 𝓤 H A W .typed r _ is .0;
-    vcpu = λ r. r .vcpu;
-    vcpu-is = λ r is. LL.owed S.the-type S′.the-laws r _ is .1 .0;
-    answer = λ r. machO (r .outcome);
-    answer-typed = λ r is. typedO 𝓤 H A W (r .outcome) (LL.owed S.the-type S′.the-laws r _ is .0);
-  }
+  abbrev stepped : Answered S.the-row S′.mir O′.mir
+  stepped = answered 𝓤 H A W S.the-type S′.the-laws refl (λ r. r .vcpu) (λ r is. LL.owed S.the-type S′.the-laws r _ is .1 .0) (λ r. machO (r .outcome)) (λ r is. typedO 𝓤 H A W (r .outcome) (LL.owed S.the-type S′.the-laws r _ is .0))
 
   module _ (𝓣 : Tables 𝓤 H) (size-known : Triple 𝓤 (𝓣 .C #size) (Served 𝓤 H A)) (step-known : Triple 𝓤 (𝓣 .C #step) (StepContract [] tt (plain (λ _. S.the-row)) Stepped 𝓤 H A))
       (κ : Lft) (q : Share) (b o : ℕ) (γ : GName) (h : Module) (i : ℕ) (i-fits : i < 2 ^ 32) where
     walk : ent 𝓤 (⋆ 𝓤 H A (held 𝓤 H A κ q b o γ h)) (WpFn 𝓤 H (𝓣 .C) (𝓣 .Λ) code.function (vptr b o ∷ vint w32 i ∷ []) (After 𝓤 H A κ q b o γ O.the-row (Says h i)))
-    unfolding stepped
     walk =
         qed W (held 𝓤 H A κ q b o γ h) ∵ enter ! (𝓣 .C) (𝓣 .Λ) code.function (vptr b o ∷ vint w32 i ∷ []) _ $ allocates ! (λ bs. params1 ! $ pass1 ! (init ! 4 refl (tt, tt)) $ pass1 ! (init ! 5 refl (tt, record { fits = i-fits })) $ pass0 ! $
         open-ref ! tt (mem T.the-row) {b = b} {o = o} $ knows-module ! h b o (λ is-h. move ! (to-head 0) $

@@ -55,7 +55,7 @@ use Rattle.face_kit.proofs.Answers.{machO, typedO, makesO, unknownO}
 use Rattle.face_kit.proofs.Face.{held}
 use Rattle.face_kit.proofs.Frame.{allocates, var, ValueContract}
 use Rattle.face_kit.proofs.Lens.{knows-module}
-use Rattle.face_kit.proofs.OnePage.{Paged, to-head, to-locals, on-page}
+use Rattle.face_kit.proofs.OnePage.{Paged, paged, to-head, to-locals, on-page}
 use Rattle.face_kit.proofs.Page.{lent, AfterPage, keeps-page, leaves-page, face-page, PageContract}
 use Rattle.face_kit.proofs.Served.{Served, is-so, is-not}
 use Rattle.gate_mut_pages.proofs.notice_in.Key.{name as #on}
@@ -94,21 +94,13 @@ module _ {M : Type 1} (𝓤 : URA M) (H : Heap 𝓤) (A : Atoms 𝓤) where
   Step = ValueContract (plain (λ _. R.the-row) ∷ plain (λ _. D.the-row) ∷ []) (yes, (yes, tt)) (plain (λ _. R.the-row)) Adds 𝓤 H A
 
 module _ {M : Type 1} (𝓤 : URA M) (H : Heap 𝓤) (A : Atoms 𝓤) (W : Given 𝓤 H A) where
-  given-back : Paged S.the-row S′.mir O′.mir
-  given-back = record {
-    val = LL.val S.the-type S′.the-laws;
-    spells = LL.tells S.the-type S′.the-laws;
-    typed = λ r is. LL.lawful S.the-type S′.the-laws 𝓤 H A W .typed r _ is .0;
-    refused = λ r. r .refused;
-    answer = λ r. machO (r .outcome);
-    answer-typed = λ r is. typedO 𝓤 H A W (r .outcome) (LL.owed S.the-type S′.the-laws r _ is .0);
-  }
+  abbrev given-back : Paged S.the-row S′.mir O′.mir
+  given-back = paged 𝓤 H A W S.the-type S′.the-laws refl (λ r. r .refused) (λ r. machO (r .outcome)) (λ r is. typedO 𝓤 H A W (r .outcome) (LL.owed S.the-type S′.the-laws r _ is .0))
 
   module _ (𝓣 : Tables 𝓤 H) (size-known : Triple 𝓤 (𝓣 .C #size) (Served 𝓤 H A)) (page-known : Triple 𝓤 (𝓣 .C #page) (Page 𝓤 H A)) (step-known : Triple 𝓤 (𝓣 .C #step) (Step 𝓤 H A))
       (κ : Lft) (q : Share) (b o : ℕ) (γ : GName) (κ′ : Lft) (q′ : Share) (b′ o′ : ℕ) (γ′ : GName) (h : Module) (i : ℕ) (i-fits : i < 2 ^ 32) (ys : List ℕ) (room : Room u8 (length ys)) where
     walk : ent 𝓤 (⋆ 𝓤 H A (held 𝓤 H A κ q b o γ h ++ lent 𝓤 H A κ′ q′ b′ o′ γ′ ys))
         (WpFn 𝓤 H (𝓣 .C) (𝓣 .Λ) code.function (vptr b o ∷ vint w32 i ∷ sliceVal (b′, o′) (length ys) ∷ []) (AfterPage 𝓤 H A κ q b o γ κ′ q′ b′ o′ γ′ ys O.the-row (Says h i ys)))
-    unfolding given-back
     walk =
         qed W (held 𝓤 H A κ q b o γ h ++ lent 𝓤 H A κ′ q′ b′ o′ γ′ ys) ∵ enter ! (𝓣 .C) (𝓣 .Λ) code.function (vptr b o ∷ vint w32 i ∷ sliceVal (b′, o′) (length ys) ∷ []) _ $ allocates ! (λ bs. params1 ! $
         pass1 ! (init ! 6 refl (tt, tt)) $ pass1 ! (init ! 7 refl (tt, record { fits = i-fits })) $ pass1 ! (init ! 8 refl (tt, (tt, (record { fits = room .0 }, tt)))) $ pass0 ! $

@@ -6,7 +6,7 @@ ghost use Rattle.model.specs.Registers.{pprOf, ldr, registerValue};
 use model::Vcpu;
 use vector_set::Found;
 
-// The processor priority for a TPR and the set in service.
+// The processor priority for a TPR and the set in service (6.17, 6.18).
 pub fn ppr(tpr: u8, isr: [u32; 8]) -> u8
     ensures { λ r. ⌜ r ≡ pprOf tpr (Option·getD (highest isr) 0) ⌝ }
 {
@@ -19,6 +19,7 @@ pub fn ppr(tpr: u8, isr: [u32; 8]) -> u8
     16 * (s / 16)
 }
 
+// The LDR of an ID (6.16).
 fn ldr_of(id: u32) -> u64
     ensures { λ r. ⌜ r ≡ ldr id ⌝ }
 {
@@ -26,7 +27,7 @@ fn ldr_of(id: u32) -> u64
     (id / 16) as u64 * 65536 + bit
 }
 
-// The members 32 k to 32 k + 31 of a set, k below 8; no bit for another k.
+// The members 32 k to 32 k + 31 of a set, k below 8 (6.14); no bit for another k.
 fn word_at(s: [u32; 8], k: u32) -> u64
     ensures { λ r. ⌜ r ≡ wordOf s k ⌝ }
 {
@@ -37,7 +38,7 @@ fn word_at(s: [u32; 8], k: u32) -> u64
     s[at] as u64
 }
 
-// The value of a register that may be read; 0 for another number.
+// The value of a register that may be read (6.3 to 6.11); 0 for another number.
 pub fn register_value(v: Vcpu, id: u32, r: u32) -> u64
     ensures { λ x. ⌜ x ≡ registerValue id v r ⌝ }
 {

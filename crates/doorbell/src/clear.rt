@@ -6,7 +6,7 @@ ghost use lib.ListN.{length};
 ghost use Rattle.model.specs.Doorbell.{bitOf, manyBit, clearsBit};
 ghost use Rattle.doorbell.specs.Clear.{clearing};
 
-// Clears bits 0 to 10 and 14.
+// Clears bits 0 to 10 and 14 (4.31).
 fn clear_request(d: &mut [u8])
     requires { ⌜ length (now d) ≡ 32 ⌝ }
     ensures { λ _. ⌜ now (d .exit) ≡ clearing (λ k. leb k 10 || eqb k manyBit) (now (d .entry)) ⌝ }
@@ -16,7 +16,7 @@ fn clear_request(d: &mut [u8])
     d[1] = flags & 0xB8;
 }
 
-// Clears the marks of the vectors 31 to 255.
+// Clears the marks of the vectors 31 to 255 (4.32).
 fn clear_marks(d: &mut [u8])
     requires { ⌜ length (now d) ≡ 32 ⌝ }
     ensures { λ _. ⌜ now (d .exit) ≡ clearing (λ k. leb 31 k) (now (d .entry)) ⌝ }
@@ -29,7 +29,7 @@ fn clear_marks(d: &mut [u8])
     }
 }
 
-// Bits 0 to 10 and 14, and the marks if bit 14 was set.
+// Bits 0 to 10 and 14, and the marks if bit 14 was set (4.31 to 4.33).
 pub fn clear_descriptor(d: &mut [u8])
     requires { ⌜ length (now d) ≡ 32 ⌝ }
     ensures { λ _. ⌜ now (d .exit) ≡ clearing (clearsBit (bitOf (now (d .entry)) manyBit)) (now (d .entry)) ⌝ }

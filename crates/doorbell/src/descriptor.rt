@@ -9,7 +9,7 @@ ghost use Rattle.model.specs.Doorbell.{bitOf, manyBit, partOf, admitsNmi, admit
 use model::Admitted;
 use vector_set::Found;
 
-// Bits 8, 10 and 14 of the descriptor, as bits of its byte 1.
+// Bits 8, 10 and 14 of the descriptor, as bits of its byte 1 (4.8, 4.10, 4.12, 4.13).
 const NMI: u8 = 0x01;
 
 const LEVEL: u8 = 0x04;
@@ -36,7 +36,7 @@ fn word_of(d: &[u8], at: usize) -> u32
     low + 65536 * high
 }
 
-// The bits of the descriptor as a set of vectors.
+// The bits of the descriptor as a set of vectors (4.8, 4.13).
 fn marks(d: &[u8]) -> [u32; 8]
     requires { ⌜ length (now d) ≡ 32 ⌝ }
     ensures { λ r. ⌜ r ≡ collect (bitOf (now (d .entry))) ⌝ }
@@ -53,6 +53,7 @@ fn marks(d: &[u8]) -> [u32; 8]
     ]
 }
 
+// The NMI is admitted (4.16).
 fn nmi_of(d: &[u8], allowed: [u32; 8]) -> bool
     requires { ⌜ length (now d) ≡ 32 ⌝ }
     ensures { λ r. ⌜ r ≡ admitsNmi allowed (now (d .entry)) ⌝ }
@@ -63,6 +64,7 @@ fn nmi_of(d: &[u8], allowed: [u32; 8]) -> bool
     vector_set::contains(allowed, 2)
 }
 
+// The level-sensitive vector that is admitted, if one is (4.17).
 fn level_of(d: &[u8], allowed: [u32; 8]) -> Found
     requires { ⌜ length (now d) ≡ 32 ⌝ }
     ensures { λ r. ⌜ vectorOf r ≡ admitsLevel allowed (now (d .entry)) ⌝ }
@@ -80,7 +82,7 @@ fn level_of(d: &[u8], allowed: [u32; 8]) -> Found
     Found::Nothing
 }
 
-// The edge set where bit 14 is set: the marked vectors 31 to 255 other than the level-sensitive one.
+// The edge set where bit 14 is set: the marked vectors 31 to 255 other than the level-sensitive one (4.18).
 fn many_edges(d: &[u8], allowed: [u32; 8], level: Found) -> [u32; 8]
     requires { ⌜ (length (now d) ≡ 32) × (vectorOf level ≡ admitsLevel allowed (now d)) × (bitOf (now d) manyBit ≡ true) ⌝ }
     ensures { λ r. ⌜ r ≡ collect (admitsEdge allowed (now (d .entry))) ⌝ }
@@ -92,7 +94,7 @@ fn many_edges(d: &[u8], allowed: [u32; 8], level: Found) -> [u32; 8]
     }
 }
 
-// The edge set where bit 14 is clear: the one vector, unless it is level-sensitive.
+// The edge set where bit 14 is clear: the one vector, unless it is level-sensitive (4.19).
 fn one_edge(d: &[u8], allowed: [u32; 8]) -> [u32; 8]
     requires { ⌜ (length (now d) ≡ 32) × (bitOf (now d) manyBit ≡ false) ⌝ }
     ensures { λ r. ⌜ r ≡ collect (admitsEdge allowed (now (d .entry))) ⌝ }
@@ -111,7 +113,7 @@ fn one_edge(d: &[u8], allowed: [u32; 8]) -> [u32; 8]
     none
 }
 
-// What the descriptor admits under the allowed set.
+// What the descriptor admits under the allowed set (4.14 to 4.24).
 pub fn read_descriptor(d: &[u8], allowed: [u32; 8]) -> Admitted
     requires { ⌜ length (now d) ≡ 32 ⌝ }
     ensures { λ r. ⌜ partOf r ≡ admits allowed (now (d .entry)) ⌝ }

@@ -10,7 +10,7 @@ use vector_set::Found;
 mod clear;
 mod descriptor;
 
-// The byte of the page with the announcing bits: bit L - 1 for VMPL L.
+// The byte of the page with the announcing bits: bit L - 1 for VMPL L (4.5).
 const ANNOUNCEMENTS: usize = 3;
 
 fn one_if(b: bool) -> u32
@@ -28,7 +28,7 @@ fn one_found(f: Found) -> u32
     }
 }
 
-// The number of admitted items, the NMI counted.
+// The number of admitted items, the NMI counted (4.29).
 pub fn items_of(a: Admitted) -> u32
     ensures { λ r. ⌜ r ≡ items (partOf a) ⌝ }
 {
@@ -37,7 +37,7 @@ pub fn items_of(a: Admitted) -> u32
     one_if(a.nmi) + one_found(level) + vector_set::count_of(edge)
 }
 
-// What a refused notice, or a page that announces nothing, admits.
+// What a refused notice, or a page that announces nothing, admits (4.20).
 pub fn nothing() -> Admitted
     ensures { λ r. ⌜ partOf r ≡ noPart ⌝ }
 {
@@ -49,7 +49,7 @@ pub fn nothing() -> Admitted
     }
 }
 
-// Takes what the page of a notice admits, and clears it in the page.
+// Takes what the page of a notice admits (4.14 to 4.24), and clears it in the page (4.31 to 4.33).
 pub fn take_notice(page: &mut [u8], vmpl: u32, allowed: [u32; 8]) -> Admitted
     ensures { λ r. ⌜ Taken vmpl allowed (now (page .entry)) (partOf r) (now (page .exit)) ⌝ }
 {

@@ -45,14 +45,14 @@ fn flag(b: bool, mask: u8) -> u8
     if b { mask } else { 0 }
 }
 
-// Bits 8 to 15 of the descriptor.
+// Bits 8 to 15 of the descriptor (10.5, 10.6, 10.8).
 fn flags(nmi: bool, level: bool, many: bool) -> u8
     ensures { λ r. ⌜ r ≡ one nmi + 4 * one level + 64 * one many ⌝ }
 {
     flag(nmi, 1) + flag(level, 4) + flag(many, 64)
 }
 
-// The descriptor of what is pending.
+// The descriptor of what is pending (10.4 to 10.9).
 fn write_pending(d: &mut [u8], irr: [u32; 8], level: [u32; 8], nmi: bool)
     requires { ⌜ length (now d) ≡ 32 ⌝ }
     ensures { λ _. ⌜ now (d .exit) ≡ bytesFrom (handedBit irr level nmi) 0 32 ⌝ }
@@ -69,6 +69,7 @@ fn write_pending(d: &mut [u8], irr: [u32; 8], level: [u32; 8], nmi: bool)
     d[1] = flags;
 }
 
+// The 64 bytes: the descriptor, and what is in service (10.10).
 fn write_handed(
     part: &mut [u8],
     irr: [u32; 8],
@@ -85,7 +86,7 @@ fn write_handed(
     write_set(&mut part[32..64], serving);
 }
 
-// Writes what a vCPU hands back into the page.
+// Writes what a vCPU hands back into the page (10.3 to 10.11).
 pub fn hand_over(
     page: &mut [u8],
     vmpl: u32,

@@ -5,7 +5,7 @@ ghost use Rattle.model.specs.Ipi.{icrFixedBits, icrIsFixed, icrIsNmi, icrLegal,
 use model::Item;
 use model::Target;
 
-// A vector that may be sent or admitted: 31 to 255.
+// A vector that may be sent or admitted: 31 to 255 (4.13, 7.9).
 pub fn is_vector(v: u64) -> bool
     ensures { λ r. ⌜ r ≡ isVector v ⌝ }
 {
@@ -15,7 +15,7 @@ pub fn is_vector(v: u64) -> bool
     v <= 255
 }
 
-// Bit 14 is 1; bits 12, 13, 15, 16, 17 and 20 to 31 are 0.
+// Bit 14 is 1; bits 12, 13, 15, 16, 17 and 20 to 31 are 0 (7.5, 7.8).
 fn has_fixed_bits(x: u64) -> bool
     ensures { λ r. ⌜ r ≡ icrFixedBits x ⌝ }
 {
@@ -34,7 +34,7 @@ fn has_fixed_bits(x: u64) -> bool
     (x >> 20) % 4096 == 0
 }
 
-// Type Fixed, with a vector that may be sent.
+// Type Fixed, with a vector that may be sent (7.3, 7.9).
 fn is_fixed(x: u64) -> bool
     ensures { λ r. ⌜ r ≡ icrIsFixed x ⌝ }
 {
@@ -44,7 +44,7 @@ fn is_fixed(x: u64) -> bool
     is_vector(x % 256)
 }
 
-// Type NMI, with neither shorthand that would send it to the caller.
+// Type NMI, with neither shorthand that would send it to the caller (7.3, 7.10).
 fn is_nmi(x: u64) -> bool
     ensures { λ r. ⌜ r ≡ icrIsNmi x ⌝ }
 {
@@ -58,6 +58,7 @@ fn is_nmi(x: u64) -> bool
     shorthand != 2
 }
 
+// The ICR takes the value (7.11).
 pub fn is_legal(x: u64) -> bool
     ensures { λ r. ⌜ r ≡ icrLegal x ⌝ }
 {
@@ -70,6 +71,7 @@ pub fn is_legal(x: u64) -> bool
     is_nmi(x)
 }
 
+// What a legal value sends (7.2, 7.3).
 pub fn item_of(x: u64) -> Item
     ensures { λ r. ⌜ r ≡ icrItem x ⌝ }
 {
@@ -79,7 +81,7 @@ pub fn item_of(x: u64) -> Item
     Item::Vector((x % 256) as u8)
 }
 
-// A shorthand comes before the destination.
+// A shorthand comes before the destination (7.4, 7.6, 7.7, 7.12, 7.15).
 pub fn target_of(x: u64) -> Target
     ensures { λ r. ⌜ r ≡ icrTarget x ⌝ }
 {
@@ -100,7 +102,7 @@ pub fn target_of(x: u64) -> Target
     }
 }
 
-// The vCPU k is a target of an IPI that the vCPU caller sends.
+// The vCPU k is a target of an IPI that the vCPU caller sends (7.6, 7.13 to 7.15).
 pub fn is_target(t: Target, caller: u32, k: u32) -> bool
     ensures { λ r. ⌜ r ≡ hits t caller k ⌝ }
 {

@@ -1,6 +1,10 @@
--- Document 01, Codes: the number of each refusal, and what each answer of the functions says in document 01's numbers and values.
+-- The number of each refusal, the verdict on an event, and what the functions' answers say (section 11).
 -- Assumes nothing.
+use mathlib.Core.Bool.{Bool, true, false}
+use mathlib.Core.Option.{Option, none, some}
 use Prim.Native.Nat.{ℕ}
+use Rattle.model.specs.declared.Item.{Item}
+use Rattle.model.specs.declared.Item.the-variants as item
 use Rattle.model.specs.declared.Refusal.{Refusal}
 use Rattle.model.specs.declared.Refusal.the-variants.{UnknownVcpu, ShortPage, NotLeaving, NothingInFlight, BadStart, NotActive, UnknownCall, BadRegister, BadParameter, RegistrationsFull, NotRegistered}
 use Rattle.model.specs.declared.Outcome.{Outcome}
@@ -22,14 +26,26 @@ codeOf BadParameter = 0x80000005
 codeOf RegistrationsFull = 0x80000007
 codeOf NotRegistered = 0x80001000
 
--- what an event gives: accepted with its number, an entry's answer, or refused with its code.
--- "a refusal and an accepted result are told apart even where their numbers are equal"; an entry's answers have no number in document 01
+-- ---- whether an event is accepted: the first test that fails refuses
+pub data Verdict : Type 0 where
+  accept : Verdict
+  refuse : Refusal → Verdict
+
+abbrev pub need : Bool → Refusal → Verdict → Verdict
+need true c g = g
+need false c g = refuse c
+
+-- ---- what an event gives
+-- an entry's answer
+pub data Answer : Type 0 where
+  nothing : Answer
+  presents : Item → Answer
+  window : ℕ → Answer
+
+-- accepted with its number, an entry's answer, or refused with its code: a refusal is told from an accepted result of the same number
 pub data Result : Type 0 where
   done : ℕ → Result
-  nothing : Result
-  nmi : Result
-  vector : ℕ → Result
-  window : ℕ → Result
+  answers : Answer → Result
   refused : ℕ → Result
 
 abbrev pub resultOf : Outcome → Result
@@ -37,8 +53,31 @@ resultOf (outcome.Done x) = done x
 resultOf (outcome.Refused c) = refused (codeOf c)
 
 abbrev pub presentedResult : Presentation → Result
-presentedResult presentation.Nothing = nothing
-presentedResult presentation.Nmi = nmi
-presentedResult (presentation.Vector v) = vector v
-presentedResult (presentation.Window v) = window v
+presentedResult presentation.Nothing = answers nothing
+presentedResult presentation.Nmi = answers (presents item.Nmi)
+presentedResult (presentation.Vector v) = answers (presents (item.Vector v))
+presentedResult (presentation.Window v) = answers (window v)
 presentedResult (presentation.Refused c) = refused (codeOf c)
+
+-- ---- what a result says
+abbrev pub accepted : Result → Bool
+accepted (done x) = true
+accepted (answers a) = true
+accepted (refused c) = false
+
+-- the code with which it refuses, if it does
+abbrev pub refusalOf : Result → Option ℕ
+refusalOf (done x) = none
+refusalOf (answers a) = none
+refusalOf (refused c) = some c
+
+-- the item that an entry's answer presents
+abbrev pub presentedIn : Answer → Option Item
+presentedIn nothing = none
+presentedIn (presents y) = some y
+presentedIn (window v) = none
+
+abbrev pub presentedBy : Result → Option Item
+presentedBy (done x) = none
+presentedBy (answers a) = presentedIn a
+presentedBy (refused c) = none

@@ -1,4 +1,4 @@
--- Document 01, Guest calls: the ICR's legal values, whom an IPI is for, and what it does.
+-- The ICR's legal values, whom an IPI is for, and what it does (section 7).
 -- Assumes nothing.
 use mathlib.Core.Bool.{Bool, true, false, cond, not, _&&_, _||_}
 use mathlib.Core.List.{List, [], _∷_}
@@ -11,12 +11,12 @@ use Rattle.model.specs.declared.Target.{Target}
 use Rattle.model.specs.declared.Target.the-variants.{Caller, All, Others, Physical, Logical}
 use Rattle.model.specs.declared.Vcpu.{Vcpu}
 use Rattle.model.specs.declared.Module.{Module}
-use Rattle.model.specs.State.{isActive, size, vcpuAt, withIrr, withNmi}
+use Rattle.model.specs.State.{isActive, size, vcpuAt}
+use Rattle.model.specs.Items.{mark}
 use Rattle.model.specs.Doorbell.{isVector}
 use Rattle.vector_set.specs.Bits.{bitAt, bits}
-use Rattle.vector_set.specs.Sets.{insert}
 
--- ---- the fields: "bits 7:0 vector; 10:8 type, 0 Fixed or 4 NMI; 11 logical; .. 19:18 shorthand, .. 63:32 destination"
+-- ---- the fields of the ICR
 abbrev pub icrVector : ℕ → ℕ
 icrVector x = x % 256
 
@@ -29,28 +29,25 @@ icrShorthand x = x / 2 ^ 18 % 4
 abbrev pub icrDestination : ℕ → ℕ
 icrDestination x = x / 2 ^ 32
 
--- "14 must be 1; 15 must be 0"; "Bits 12, 13, 16, 17 and 20 to 31 are 0."
+-- ---- the legal values
+-- bits 14 and 15; bits 12 and 13, 16 and 17, 20 to 31
 unfoldable pub icrFixedBits : ℕ → Bool
 icrFixedBits x =
     bitAt x 14 && not (bitAt x 15) && eqb (x / 2 ^ 12 % 4) 0 && eqb (x / 2 ^ 16 % 4) 0 && eqb (x / 2 ^ 20 % 2 ^ 12) 0
 
--- "Fixed needs a vector 31 to 255."
 unfoldable pub icrIsFixed : ℕ → Bool
 icrIsFixed x = eqb (icrType x) 0 && isVector (icrVector x)
 
--- "NMI forbids shorthands 1 and 2."
 unfoldable pub icrIsNmi : ℕ → Bool
 icrIsNmi x = eqb (icrType x) 4 && not (eqb (icrShorthand x) 1 || eqb (icrShorthand x) 2)
 
--- "A value that breaks these rules, another type among them, is refused."
 unfoldable pub icrLegal : ℕ → Bool
 icrLegal x = icrFixedBits x && (icrIsFixed x || icrIsNmi x)
 
--- what a legal value sends
+-- ---- what a legal value sends, and to whom
 unfoldable pub icrItem : ℕ → Item
 icrItem x = cond (eqb (icrType x) 4) Nmi (Vector (icrVector x))
 
--- "Under a shorthand the destination is not read"; "Destination 0xFFFFFFFF is all, either way."
 unfoldable pub icrTarget : ℕ → Target
 icrTarget x =
     cond (eqb (icrShorthand x) 1) Caller
@@ -59,8 +56,7 @@ icrTarget x =
     (cond (eqb (icrDestination x) 0xFFFFFFFF) All
     (cond (bitAt x 11) (Logical (icrDestination x)) (Physical (icrDestination x))))))
 
--- the vCPU k is a target of an IPI that i sends. "self is the calling vCPU. Physical: the vCPU with that ID.
--- Logical: bits 63:48 equal ID div 16 and bit 32 + ID mod 16 is set."
+-- the vCPU k is a target of an IPI that i sends
 unfoldable pub hits : Target → ℕ → ℕ → Bool
 hits Caller i k = eqb k i
 hits All i k = true
@@ -68,17 +64,13 @@ hits Others i k = not (eqb k i)
 hits (Physical d) i k = eqb k d
 hits (Logical d) i k = eqb (d / 2 ^ 16) (k / 16) && bitAt d (k % 16)
 
--- the vCPU k, in phase p, is reached: a target below n that is active. "Targets not active are passed over."
+-- the vCPU k, in phase p, is reached: a target below n that is active
 abbrev pub reached : Target → ℕ → ℕ → ℕ → Phase → Bool
 reached t i n k p = ltb k n && hits t i k && isActive p
 
--- "Each active target's P gains the vector as edge, or its NMI mark is set, regardless of A."
-unfoldable pub post : Item → Vcpu → Vcpu
-post Nmi v = withNmi true v
-post (Vector x) v = withIrr (insert x (v .irr)) v
-
+-- ---- what it does
 unfoldable pub reach : Item → Target → ℕ → ℕ → ℕ → Vcpu → Vcpu
-reach y t i n k v = cond (reached t i n k (v .phase)) (post y v) v
+reach y t i n k v = cond (reached t i n k (v .phase)) (mark y v) v
 
 -- f at each record from number k on, told its number
 unfoldable pub mapFrom : (ℕ → Vcpu → Vcpu) → ℕ → List Vcpu → List Vcpu
@@ -90,6 +82,6 @@ unfoldable pub sent : Item → Target → ℕ → Module → Module
 sent y t i m =
     record { n = m .n; vmpl = m .vmpl; registrations = m .registrations; vcpus = mapFrom (reach y t i (size m)) 0 (m .vcpus) }
 
--- "The result of an IPI (ICR or self-IPI) is a 32-bit number whose bit i says that vCPU i was reached."
+-- bit k says that the vCPU k is reached
 unfoldable pub reachedBits : Target → ℕ → Module → ℕ
 reachedBits t i m = bits (λ k. reached t i (size m) k (vcpuAt m k .phase)) 0 32

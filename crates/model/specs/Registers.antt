@@ -1,4 +1,4 @@
--- Document 01, Guest calls: the register kinds, the registers' values and the EOI.
+-- The register kinds, the registers' values and the EOI (section 6).
 -- Assumes nothing.
 use mathlib.Core.Bool.{Bool, cond, _&&_, _||_}
 use mathlib.Core.Option.{Option, none, some, Option·getD}
@@ -15,43 +15,41 @@ abbrev pub within : ℕ → ℕ → ℕ → Bool
 within a b x = leb a x && leb x b
 
 -- ---- the kinds
--- "read: 0x802 ID; 0x80A PPR; 0x80D LDR; 0x810–0x817 S; 0x818–0x81F TMR, which is PL joined with SL; 0x820–0x827 P"
+-- ID, PPR, LDR, ISR, TMR, IRR
 unfoldable pub isRead : ℕ → Bool
 isRead r = eqb r 0x802 || eqb r 0x80A || eqb r 0x80D || within 0x810 0x817 r || within 0x818 0x81F r || within 0x820 0x827 r
 
--- "write: 0x80B EOI, value 0; 0x83F self-IPI, value 31 to 255"
+-- EOI, self-IPI
 unfoldable pub isWrite : ℕ → Bool
 isWrite r = eqb r 0x80B || eqb r 0x83F
 
--- "both: 0x808 TPR, value 0 to 255; 0x830 ICR"
+-- TPR, ICR
 unfoldable pub isBoth : ℕ → Bool
 isBoth r = eqb r 0x808 || eqb r 0x830
 
--- the listed rule; a register outside the table has no kind either
+-- a register that is not listed has no kind, in the table or outside it
 unfoldable pub kindOf : ℕ → Kind
 kindOf r = cond (isRead r) Read (cond (isWrite r) Write (cond (isBoth r) Both None))
 
 -- ---- the values
--- "The class of a vector is its value div 16."
+-- the class of a vector
 abbrev pub class : ℕ → ℕ
 class v = v / 16
 
--- "With s the highest of S (0 if empty): PPR is TPR if the class of TPR is at least that of s, else 16 × class of s."
+-- PPR for the TPR and the highest vector in service
 unfoldable pub pprOf : ℕ → ℕ → ℕ
 pprOf tpr s = cond (leb (class s) (class tpr)) tpr (16 * class s)
 
 unfoldable pub ppr : Vcpu → ℕ
 ppr v = pprOf (v .tpr) (Option·getD (highest (v .isr)) 0)
 
--- "LDR is (ID div 16) × 65,536 + 2^(ID mod 16)."
 unfoldable pub ldr : ℕ → ℕ
 ldr i = i / 16 * 65536 + 2 ^ (i % 16)
 
--- "TMR, which is PL joined with SL"
 unfoldable pub tmr : Vcpu → List ℕ
 tmr v = union (v .«irr_level») (v .«isr_level»)
 
--- the value of a register of kind read or both, on the vCPU i: "32 vectors each, lowest vectors first"
+-- the value of a register of kind read or both, on the vCPU i
 unfoldable pub registerValue : ℕ → Vcpu → ℕ → ℕ
 registerValue i v r =
     cond (eqb r 0x802) i
@@ -64,7 +62,7 @@ registerValue i v r =
     (cond (within 0x820 0x827 r) (wordOf (v .irr) (r - 0x820)) 0)))))))
 
 -- ---- EOI
--- "EOI takes the highest vector v out of S and SL"; "With S empty it succeeds and names none."
+-- the record once the highest vector in service, if there is one, is in service no more
 unfoldable pub endedAt : Option ℕ → Vcpu → Vcpu
 endedAt none v = v
 endedAt (some x) v = withIsrLevel (remove x (v .«isr_level»)) (withIsr (remove x (v .isr)) v)
@@ -72,7 +70,7 @@ endedAt (some x) v = withIsrLevel (remove x (v .«isr_level»)) (withIsr (remove
 unfoldable pub ended : Vcpu → Vcpu
 ended v = endedAt (highest (v .isr)) v
 
--- "if it was in SL the result names v for an explicit EOI to the host"; "EOI its level vector or 0"
+-- the vector that is named for an explicit EOI to the host, or 0
 unfoldable pub endedLevelAt : Option ℕ → List ℕ → ℕ
 endedLevelAt none level = 0
 endedLevelAt (some x) level = cond (has level x) x 0

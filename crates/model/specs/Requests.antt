@@ -1,4 +1,4 @@
--- Document 01, Guest calls: what the numbers of a call ask for, and what a call does to the caller's record.
+-- Guest calls: what the numbers of a call ask for, and the rule of each request (section 5).
 -- Assumes nothing.
 use mathlib.Core.Bool.{Bool, true, false, cond, _&&_, _||_}
 use Prim.Native.Nat.{ℕ, _+_, _-_, _%_}
@@ -8,16 +8,18 @@ use Rattle.model.specs.declared.InFlight.the-variants.{Nothing}
 use Rattle.model.specs.declared.Item.the-variants as item
 use Rattle.model.specs.declared.Kind.{Kind}
 use Rattle.model.specs.declared.Kind.the-variants as kind
-use Rattle.model.specs.declared.Refusal.the-variants.{UnknownCall, BadRegister, BadParameter}
+use Rattle.model.specs.declared.Refusal.the-variants.{UnknownCall, BadRegister, BadParameter, NotRegistered, RegistrationsFull}
 use Rattle.model.specs.declared.Local.{Local}
 use Rattle.model.specs.declared.Local.the-variants.{Features, Leave, Release, Register, Allow, Disallow, Read, SetTpr, Eoi, SelfIpi}
 use Rattle.model.specs.declared.Request.{Request}
 use Rattle.model.specs.declared.Request.the-variants as request
 use Rattle.model.specs.declared.Vcpu.{Vcpu}
 use Rattle.model.specs.State.{withAllowed, withTpr, withPhase, withFlight}
+use Rattle.model.specs.Codes.{Verdict, accept, refuse, need}
+use Rattle.model.specs.Items.{mark}
 use Rattle.model.specs.Doorbell.{isVector}
 use Rattle.model.specs.Registers.{kindOf, registerValue, ended, endedLevel}
-use Rattle.model.specs.Ipi.{icrLegal, post}
+use Rattle.model.specs.Ipi.{icrLegal}
 use Rattle.vector_set.specs.Bits.{bitAt, bits}
 use Rattle.vector_set.specs.Sets.{insert, remove}
 
@@ -25,44 +27,44 @@ use Rattle.vector_set.specs.Sets.{insert, remove}
 abbrev pub bad : Request
 bad = request.Refused BadParameter
 
--- "Call 1: ECX 0 makes the vCPU leaving .. ECX 1 takes one from the count .. ECX 2 adds one. Other ECX values are refused."
+-- call 1, by ECX
 unfoldable pub registration : ℕ → Request
 registration c =
     cond (eqb c 0) (request.Local Leave)
     (cond (eqb c 1) (request.Local Release) (cond (eqb c 2) (request.Local Register) bad))
 
--- "reading a write kind" has the code of a register outside the table or of kind none
+-- call 2, by the kind of the register
 abbrev pub readBy : Kind → ℕ → Request
 readBy kind.None r = request.Refused BadRegister
 readBy kind.Read r = request.Local (Read r)
 readBy kind.Write r = request.Refused BadRegister
 readBy kind.Both r = request.Local (Read r)
 
--- the value written to a register of kind write or both
+-- the value written to EOI, self-IPI, TPR or ICR; no other register may be written
 unfoldable pub writeValue : ℕ → ℕ → Request
 writeValue r x =
     cond (eqb r 0x80B) (cond (eqb x 0) (request.Local Eoi) bad)
     (cond (eqb r 0x83F) (cond (isVector x) (request.Local (SelfIpi x)) bad)
     (cond (eqb r 0x808) (cond (leb x 255) (request.Local (SetTpr x)) bad)
-    (cond (icrLegal x) (request.Icr x) bad)))
+    (cond (eqb r 0x830) (cond (icrLegal x) (request.Icr x) bad) (request.Refused BadRegister))))
 
--- "writing a read kind" has the code of a bad value
+-- call 3, by the kind of the register
 abbrev pub writeBy : Kind → ℕ → ℕ → Request
 writeBy kind.None r x = request.Refused BadRegister
 writeBy kind.Read r x = bad
 writeBy kind.Write r x = writeValue r x
 writeBy kind.Both r x = writeValue r x
 
--- "only 2 (the NMI) and 31 to 255 may be named, bits 9 to 31 are 0"
+-- ECX of call 4 is within the rule
 unfoldable pub nameable : ℕ → Bool
 nameable c = (eqb (c % 256) 2 || isVector (c % 256)) && ltb c 512
 
--- "Call 4: bits 7:0 of ECX name a vector, bit 8 set puts it in A, clear takes it out"
+-- call 4, by ECX
 unfoldable pub permission : ℕ → Request
 permission c =
     cond (nameable c) (cond (bitAt c 8) (request.Local (Allow (c % 256))) (request.Local (Disallow (c % 256)))) bad
 
--- a call by its number, ECX and RDX. "Call 0 ignores ECX; only call 3 reads RDX."
+-- a call by its number, ECX and RDX
 unfoldable pub requestOf : ℕ → ℕ → ℕ → Request
 requestOf op c x =
     cond (eqb op 0) (request.Local Features)
@@ -71,32 +73,46 @@ requestOf op c x =
     (cond (eqb op 3) (writeBy (kindOf c) c x)
     (cond (eqb op 4) (permission c) (request.Refused UnknownCall)))))
 
--- ---- what a call does to the caller's record
--- the number that a call gives, and the caller's record and the count after it
+-- ---- the rule of each request
+-- whether the count lets it be served, the number that it gives, and the caller's record and the count after it
 pub record Served : Type 0 where
+  pub verdict : Verdict
   pub value : ℕ
   pub vcpu : Vcpu
   pub registrations : ℕ
 
--- "An accepted guest call or entry first forgets what is in flight on its vCPU."
 abbrev pub forget : Vcpu → Vcpu
 forget v = withFlight Nothing v
 
--- "makes the vCPU leaving if the count is 0"
 abbrev pub leaveIf : Bool → Vcpu → Vcpu
 leaveIf true v = withPhase Leaving v
 leaveIf false v = v
 
--- a call on the record v of the vCPU i, which has forgotten what was in flight, with the count k.
--- "takes one from the count unless it is 0": k - 1 is 0 at 0. "every other accepted call gives 0"
+-- served at every count
+abbrev pub always : ℕ → Vcpu → ℕ → Served
+always x v k = record { verdict = accept; value = x; vcpu = v; registrations = k }
+
+-- a request on the record v of the vCPU i, which has forgotten what was in flight, at the count k. k - 1 is 0 at 0
 unfoldable pub serve : Local → ℕ → ℕ → Vcpu → Served
-serve Features i k v = record { value = 0; vcpu = v; registrations = k }
-serve Leave i k v = record { value = 0; vcpu = leaveIf (eqb k 0) v; registrations = k }
-serve Release i k v = record { value = 0; vcpu = leaveIf (eqb (k - 1) 0) v; registrations = k - 1 }
-serve Register i k v = record { value = 0; vcpu = v; registrations = k + 1 }
-serve (Allow x) i k v = record { value = 0; vcpu = withAllowed (insert x (v .allowed)) v; registrations = k }
-serve (Disallow x) i k v = record { value = 0; vcpu = withAllowed (remove x (v .allowed)) v; registrations = k }
-serve (Read r) i k v = record { value = registerValue i v r; vcpu = v; registrations = k }
-serve (SetTpr x) i k v = record { value = 0; vcpu = withTpr x v; registrations = k }
-serve Eoi i k v = record { value = endedLevel v; vcpu = ended v; registrations = k }
-serve (SelfIpi x) i k v = record { value = bits (λ j. eqb j i) 0 32; vcpu = post (item.Vector x) v; registrations = k }
+serve Features i k v = always 0 v k
+serve Leave i k v = always 0 (leaveIf (eqb k 0) v) k
+serve Release i k v = always 0 (leaveIf (eqb (k - 1) 0) v) (k - 1)
+serve Register i k v =
+    record {
+      verdict = need (leb 1 k) NotRegistered (need (leb k 254) RegistrationsFull accept);
+      value = 0;
+      vcpu = v;
+      registrations = k + 1;
+    }
+serve (Allow x) i k v = always 0 (withAllowed (insert x (v .allowed)) v) k
+serve (Disallow x) i k v = always 0 (withAllowed (remove x (v .allowed)) v) k
+serve (Read r) i k v = always (registerValue i v r) v k
+serve (SetTpr x) i k v = always 0 (withTpr x v) k
+serve Eoi i k v = always (endedLevel v) (ended v) k
+serve (SelfIpi x) i k v = always (bits (λ j. eqb j i) 0 32) (mark (item.Vector x) v) k
+
+-- whether a request is served at the count k, on the record v of the vCPU i
+unfoldable pub callVerdict : Request → ℕ → ℕ → Vcpu → Verdict
+callVerdict (request.Local o) i k v = serve o i k v .verdict
+callVerdict (request.Icr x) i k v = accept
+callVerdict (request.Refused c) i k v = refuse c

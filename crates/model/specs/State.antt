@@ -1,4 +1,5 @@
--- Document 01, State: the module, its records, and what start gives.
+-- The module, its records, and what start gives (sections 2 and 3 of docs/SPECIFICATION.md).
+-- The sets of a record are named A, P, S, PL and SL there: `allowed`, `irr`, `isr`, `irr_level` and `isr_level` here.
 -- Assumes nothing.
 use mathlib.Core.Bool.{Bool, true, false, cond, _&&_}
 use mathlib.Core.List.{List, _++_}
@@ -29,23 +30,27 @@ flies Nothing = false
 flies Nmi = true
 flies (Vector v) = true
 
--- a record with nothing in it, in a phase
-unfoldable pub bare : Phase → Vcpu
-bare p =
+-- ---- a record by its parts: A, P, S, PL, SL, the NMI mark, TPR, ICR, the phase, what is in flight
+abbrev pub vcpu : List ℕ → List ℕ → List ℕ → List ℕ → List ℕ → Bool → ℕ → ℕ → Phase → InFlight → Vcpu
+vcpu a p s pl sl nmi tpr icr ph fl =
     record {
-      allowed = empty;
-      irr = empty;
-      isr = empty;
-      «irr_level» = empty;
-      «isr_level» = empty;
-      nmi = false;
-      tpr = 0;
-      icr = 0;
-      phase = p;
-      flight = Nothing;
+      allowed = a;
+      irr = p;
+      isr = s;
+      «irr_level» = pl;
+      «isr_level» = sl;
+      nmi = nmi;
+      tpr = tpr;
+      icr = icr;
+      phase = ph;
+      flight = fl;
     }
 
--- "Fresh: count 1, phases active, all else empty or 0."
+-- a record with nothing in it, in a phase
+unfoldable pub bare : Phase → Vcpu
+bare p = vcpu empty empty empty empty empty false 0 0 p Nothing
+
+-- a fresh record
 abbrev pub fresh : Vcpu
 fresh = bare Active
 
@@ -53,7 +58,39 @@ fresh = bare Active
 abbrev pub absent : Vcpu
 absent = bare Left
 
--- "A module value with n over 32 or L not 1 to 3 is answered as one with n 0."
+-- a record with one part changed
+abbrev pub withAllowed : List ℕ → Vcpu → Vcpu
+withAllowed x v = vcpu x (v .irr) (v .isr) (v .«irr_level») (v .«isr_level») (v .nmi) (v .tpr) (v .icr) (v .phase) (v .flight)
+
+abbrev pub withIrr : List ℕ → Vcpu → Vcpu
+withIrr x v = vcpu (v .allowed) x (v .isr) (v .«irr_level») (v .«isr_level») (v .nmi) (v .tpr) (v .icr) (v .phase) (v .flight)
+
+abbrev pub withIsr : List ℕ → Vcpu → Vcpu
+withIsr x v = vcpu (v .allowed) (v .irr) x (v .«irr_level») (v .«isr_level») (v .nmi) (v .tpr) (v .icr) (v .phase) (v .flight)
+
+abbrev pub withIrrLevel : List ℕ → Vcpu → Vcpu
+withIrrLevel x v = vcpu (v .allowed) (v .irr) (v .isr) x (v .«isr_level») (v .nmi) (v .tpr) (v .icr) (v .phase) (v .flight)
+
+abbrev pub withIsrLevel : List ℕ → Vcpu → Vcpu
+withIsrLevel x v = vcpu (v .allowed) (v .irr) (v .isr) (v .«irr_level») x (v .nmi) (v .tpr) (v .icr) (v .phase) (v .flight)
+
+abbrev pub withNmi : Bool → Vcpu → Vcpu
+withNmi x v = vcpu (v .allowed) (v .irr) (v .isr) (v .«irr_level») (v .«isr_level») x (v .tpr) (v .icr) (v .phase) (v .flight)
+
+abbrev pub withTpr : ℕ → Vcpu → Vcpu
+withTpr x v = vcpu (v .allowed) (v .irr) (v .isr) (v .«irr_level») (v .«isr_level») (v .nmi) x (v .icr) (v .phase) (v .flight)
+
+abbrev pub withIcr : ℕ → Vcpu → Vcpu
+withIcr x v = vcpu (v .allowed) (v .irr) (v .isr) (v .«irr_level») (v .«isr_level») (v .nmi) (v .tpr) x (v .phase) (v .flight)
+
+abbrev pub withPhase : Phase → Vcpu → Vcpu
+withPhase x v = vcpu (v .allowed) (v .irr) (v .isr) (v .«irr_level») (v .«isr_level») (v .nmi) (v .tpr) (v .icr) x (v .flight)
+
+abbrev pub withFlight : InFlight → Vcpu → Vcpu
+withFlight x v = vcpu (v .allowed) (v .irr) (v .isr) (v .«irr_level») (v .«isr_level») (v .nmi) (v .tpr) (v .icr) (v .phase) x
+
+-- ---- the module
+-- the n that a module value is answered with: 0 where n is over 32 or L is not 1 to 3
 unfoldable pub size : Module → ℕ
 size m = cond (leb (m .n) 32 && leb 1 (m .vmpl) && leb (m .vmpl) 3) (m .n) 0
 
@@ -61,25 +98,6 @@ size m = cond (leb (m .n) 32 && leb 1 (m .vmpl) && leb (m .vmpl) 3) (m .n) 0
 unfoldable pub vcpuAt : Module → ℕ → Vcpu
 vcpuAt m i = getD (m .vcpus) i absent
 
--- ---- start
--- "Start is refused unless n is 1 to 32 and L is 1 to 3"
-abbrev pub mayStart : ℕ → ℕ → Bool
-mayStart n l = leb 1 n && leb n 32 && leb 1 l && leb l 3
-
--- n fresh records
-unfoldable pub started : ℕ → ℕ → Module
-started n l =
-    record { n = n; vmpl = l; registrations = 1; vcpus = replicate n fresh ++ replicate (32 - n) absent }
-
--- "the module it then gives has n 0, L 1, count 0 and no records"
-unfoldable pub stopped : Module
-stopped = record { n = 0; vmpl = 1; registrations = 0; vcpus = replicate 32 absent }
-
--- the module that start gives for n and L, refused or not
-unfoldable pub start : ℕ → ℕ → Module
-start n l = cond (mayStart n l) (started n l) stopped
-
--- ---- a module or a record with one part changed
 unfoldable pub withVcpu : Module → ℕ → Vcpu → Module
 withVcpu m i v =
     record { n = m .n; vmpl = m .vmpl; registrations = m .registrations; vcpus = set (m .vcpus) i v }
@@ -87,152 +105,19 @@ withVcpu m i v =
 unfoldable pub withRegistrations : ℕ → Module → Module
 withRegistrations k m = record { n = m .n; vmpl = m .vmpl; registrations = k; vcpus = m .vcpus }
 
-abbrev pub withAllowed : List ℕ → Vcpu → Vcpu
-withAllowed x v =
-    record {
-      allowed = x;
-      irr = v .irr;
-      isr = v .isr;
-      «irr_level» = v .«irr_level»;
-      «isr_level» = v .«isr_level»;
-      nmi = v .nmi;
-      tpr = v .tpr;
-      icr = v .icr;
-      phase = v .phase;
-      flight = v .flight;
-    }
+-- ---- start
+abbrev pub mayStart : ℕ → ℕ → Bool
+mayStart n l = leb 1 n && leb n 32 && leb 1 l && leb l 3
 
-abbrev pub withIrr : List ℕ → Vcpu → Vcpu
-withIrr x v =
-    record {
-      allowed = v .allowed;
-      irr = x;
-      isr = v .isr;
-      «irr_level» = v .«irr_level»;
-      «isr_level» = v .«isr_level»;
-      nmi = v .nmi;
-      tpr = v .tpr;
-      icr = v .icr;
-      phase = v .phase;
-      flight = v .flight;
-    }
+-- n fresh records, and the count 1
+unfoldable pub started : ℕ → ℕ → Module
+started n l =
+    record { n = n; vmpl = l; registrations = 1; vcpus = replicate n fresh ++ replicate (32 - n) absent }
 
-abbrev pub withIsr : List ℕ → Vcpu → Vcpu
-withIsr x v =
-    record {
-      allowed = v .allowed;
-      irr = v .irr;
-      isr = x;
-      «irr_level» = v .«irr_level»;
-      «isr_level» = v .«isr_level»;
-      nmi = v .nmi;
-      tpr = v .tpr;
-      icr = v .icr;
-      phase = v .phase;
-      flight = v .flight;
-    }
+-- what a refused start gives
+unfoldable pub stopped : Module
+stopped = record { n = 0; vmpl = 1; registrations = 0; vcpus = replicate 32 absent }
 
-abbrev pub withIrrLevel : List ℕ → Vcpu → Vcpu
-withIrrLevel x v =
-    record {
-      allowed = v .allowed;
-      irr = v .irr;
-      isr = v .isr;
-      «irr_level» = x;
-      «isr_level» = v .«isr_level»;
-      nmi = v .nmi;
-      tpr = v .tpr;
-      icr = v .icr;
-      phase = v .phase;
-      flight = v .flight;
-    }
-
-abbrev pub withIsrLevel : List ℕ → Vcpu → Vcpu
-withIsrLevel x v =
-    record {
-      allowed = v .allowed;
-      irr = v .irr;
-      isr = v .isr;
-      «irr_level» = v .«irr_level»;
-      «isr_level» = x;
-      nmi = v .nmi;
-      tpr = v .tpr;
-      icr = v .icr;
-      phase = v .phase;
-      flight = v .flight;
-    }
-
-abbrev pub withNmi : Bool → Vcpu → Vcpu
-withNmi x v =
-    record {
-      allowed = v .allowed;
-      irr = v .irr;
-      isr = v .isr;
-      «irr_level» = v .«irr_level»;
-      «isr_level» = v .«isr_level»;
-      nmi = x;
-      tpr = v .tpr;
-      icr = v .icr;
-      phase = v .phase;
-      flight = v .flight;
-    }
-
-abbrev pub withTpr : ℕ → Vcpu → Vcpu
-withTpr x v =
-    record {
-      allowed = v .allowed;
-      irr = v .irr;
-      isr = v .isr;
-      «irr_level» = v .«irr_level»;
-      «isr_level» = v .«isr_level»;
-      nmi = v .nmi;
-      tpr = x;
-      icr = v .icr;
-      phase = v .phase;
-      flight = v .flight;
-    }
-
-abbrev pub withIcr : ℕ → Vcpu → Vcpu
-withIcr x v =
-    record {
-      allowed = v .allowed;
-      irr = v .irr;
-      isr = v .isr;
-      «irr_level» = v .«irr_level»;
-      «isr_level» = v .«isr_level»;
-      nmi = v .nmi;
-      tpr = v .tpr;
-      icr = x;
-      phase = v .phase;
-      flight = v .flight;
-    }
-
-abbrev pub withPhase : Phase → Vcpu → Vcpu
-withPhase x v =
-    record {
-      allowed = v .allowed;
-      irr = v .irr;
-      isr = v .isr;
-      «irr_level» = v .«irr_level»;
-      «isr_level» = v .«isr_level»;
-      nmi = v .nmi;
-      tpr = v .tpr;
-      icr = v .icr;
-      phase = x;
-      flight = v .flight;
-    }
-
-abbrev pub withFlight : InFlight → Vcpu → Vcpu
-withFlight x v =
-    record {
-      allowed = v .allowed;
-      irr = v .irr;
-      isr = v .isr;
-      «irr_level» = v .«irr_level»;
-      «isr_level» = v .«isr_level»;
-      nmi = v .nmi;
-      tpr = v .tpr;
-      icr = v .icr;
-      phase = v .phase;
-      flight = x;
-    }
+-- the module that start gives for n and L, refused or not
+unfoldable pub start : ℕ → ℕ → Module
+start n l = cond (mayStart n l) (started n l) stopped

@@ -12,7 +12,7 @@ const W: u8 = 2;
 
 const B: u8 = 3;
 
-// One kind for each register 0x800 to 0x8FF.
+// One kind for each register 0x800 to 0x8FF (6.1, 6.3 to 6.13).
 const KINDS: [u8; 256] = [
     N, // 0x800
     N,
@@ -272,7 +272,7 @@ const KINDS: [u8; 256] = [
     N,
 ];
 
-// The kind of a register by its number; none outside the table.
+// The kind of a register by its number; none outside the table (6.2).
 pub fn kind_of(r: u32) -> Kind
     ensures { λ k. ⌜ k ≡ kindOf r ⌝ }
 {

@@ -15,6 +15,7 @@ fn bad() -> Request
     Request::Refused(Refusal::BadParameter)
 }
 
+// Call 1 (5.7).
 fn registration_of(ecx: u32) -> Request
     ensures { λ r. ⌜ r ≡ registration ecx ⌝ }
 {
@@ -26,6 +27,7 @@ fn registration_of(ecx: u32) -> Request
     }
 }
 
+// Call 2 (5.21, 6.15).
 fn read_of(r: u32) -> Request
     ensures { λ q. ⌜ q ≡ readBy (kindOf r) r ⌝ }
 {
@@ -38,7 +40,7 @@ fn read_of(r: u32) -> Request
     }
 }
 
-// A value written to a register that may be written.
+// A value written to a register that may be written (6.21 to 6.24).
 fn value_of(r: u32, x: u64) -> Request
     ensures { λ q. ⌜ q ≡ writeValue r x ⌝ }
 {
@@ -61,15 +63,17 @@ fn value_of(r: u32, x: u64) -> Request
             }
             bad()
         }
-        _ => {
+        0x830 => {
             if icr::is_legal(x) {
                 return Request::Icr(x);
             }
             bad()
         }
+        _ => Request::Refused(Refusal::BadRegister),
     }
 }
 
+// Call 3 (5.21, 6.15).
 fn write_of(r: u32, x: u64) -> Request
     ensures { λ q. ⌜ q ≡ writeBy (kindOf r) r x ⌝ }
 {
@@ -82,7 +86,7 @@ fn write_of(r: u32, x: u64) -> Request
     }
 }
 
-// A vector that call 4 may name, and no bit above 8.
+// A vector that call 4 may name, and no bit above 8 (5.17).
 fn is_nameable(ecx: u32) -> bool
     ensures { λ r. ⌜ r ≡ nameable ecx ⌝ }
 {
@@ -96,6 +100,7 @@ fn is_nameable(ecx: u32) -> bool
     31 <= v
 }
 
+// Call 4 (5.15, 5.16).
 fn permission_of(ecx: u32) -> Request
     ensures { λ r. ⌜ r ≡ permission ecx ⌝ }
 {
@@ -109,6 +114,7 @@ fn permission_of(ecx: u32) -> Request
     Request::Local(Local::Disallow(v))
 }
 
+// What a call asks for, or why it is refused before the count is looked at (5.1, 5.2, 11.14).
 pub fn request_of(call: u32, ecx: u32, rdx: u64) -> Request
     ensures { λ r. ⌜ r ≡ requestOf call ecx rdx ⌝ }
 {

@@ -7,7 +7,7 @@ use mathlib.Core.Option.{none, some}
 use Prim.Native.Nat.{ℕ}
 use lib.Dec.{eqb}
 use Rattle.vector_set.specs.Sets.{has, collect, insert, union}
-use Rattle.vector_set.specs.Laws.{Words, collect-ext, collect-is, has-union}
+use Rattle.vector_set.proofs.Laws.{Words, collect-ext, collect-is, has-union}
 use Rattle.model.specs.Doorbell.{isLevel}
 
 pub or-false : (a : Bool) → a ≡ (a || false)

@@ -10,7 +10,7 @@ use Rattle.model.proofs.Phase as phase
 use Rattle.model.specs.declared.Phase.{Phase}
 use Rattle.model.specs.declared.Phase.the-variants.{Active, Leaving, Left}
 use Rattle.model.specs.State.{isActive}
-use Rattle.vector_set.specs.Laws.{clash}
+use Rattle.vector_set.proofs.Laws.{clash}
 
 -- a phase with one of the last two numbers
 pub not-active : (p : Phase) → OneOf (1 ∷ 2 ∷ []) (tagOf phase.the-type p) → isActive p ≡ false

@@ -30,10 +30,10 @@ use Rattle.model.specs.Ipi.{icrLegal, icrItem, icrTarget, hits, reached, post, 
 use Rattle.model.specs.Requests.{requestOf, registration, readBy, writeBy, writeValue, nameable, permission, forget}
 use Rattle.model.specs.Registers.{kindOf}
 use Rattle.model.specs.Events.{Event, notice, call, entry, nonDelivery, handBack, on, pageOf, Offer, offer, Verdict, accept, refuse, need, vcpuVerdict, verdict, Out, refusal, doNotice, doCall, doEntry, doNonDelivery, doHandBack, handed, step}
-use Rattle.vector_set.specs.BitLaws.{clash, bits-bit, bits-lt, bits-ext, bits-unique, bit-or, bit-pow, bit-above}
+use Rattle.vector_set.proofs.BitLaws.{clash, bits-bit, bits-lt, bits-ext, bits-unique, bit-or, bit-pow, bit-above}
 use Rattle.vector_set.specs.Bits.{bits, bitAt, one}
-use Rattle.model.specs.Tests.{or-true, or-false, and-true}
-use Rattle.model.specs.Bound.{on-put, vcpuAt-sent, size-put, vcpuAt-count}
+use Rattle.model.proofs.Tests.{or-true, or-false, and-true}
+use Rattle.model.proofs.Stored.{on-put, vcpuAt-sent, size-put, vcpuAt-count}
 use Rattle.vcpu.specs.declared.VcpuSent.{VcpuSent}
 use Rattle.vcpu.specs.Records.{servedCount, VcpuOut, noticeOn, entryOn, nonDeliveryOn, handBackOn, pageOn, CallOut, callOn, sendOn, Sending, sendAt, sendBelow}
 

@@ -6,7 +6,7 @@ use mathlib.Core.List.{List}
 use Prim.Native.Nat.{ℕ}
 use lib.Dec.{eqb}
 use Rattle.vector_set.specs.Sets.{has, insert}
-use Rattle.vector_set.specs.Laws.{Words, collect-ext, collect-is}
+use Rattle.vector_set.proofs.Laws.{Words, collect-ext, collect-is}
 use Rattle.model.specs.declared.InFlight.{InFlight}
 use Rattle.model.specs.declared.Vcpu.{Vcpu}
 use Rattle.model.specs.State.{withIrr, withIsr, withIrrLevel, withIsrLevel, withFlight}

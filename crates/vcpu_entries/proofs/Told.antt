@@ -13,7 +13,7 @@ use Rattle.model.specs.declared.InFlight.the-variants.{Nothing, Nmi, Vector}
 use Rattle.model.specs.declared.Vcpu.{Vcpu}
 use Rattle.model.specs.Codes.{Result, done, nothing, nmi, vector, window, refused, presentedResult}
 use Rattle.model.specs.Events.{Offer, idle, offerNmi, offerVector, offerWindow, offered, flightOf}
-use Rattle.vector_set.specs.Laws.{clash}
+use Rattle.vector_set.proofs.Laws.{clash}
 use Rattle.vcpu.specs.Records.{VcpuOut}
 
 -- a result and the record after it

@@ -1,1 +1,2 @@
+pub mod PagesLaws
 pub mod Tests

@@ -15,12 +15,11 @@ use Rattle.model.specs.declared.Refusal.{Refusal}
 use Rattle.model.specs.declared.Refusal.the-variants.{ShortPage}
 use Rattle.model.specs.State.{isLeaving}
 use Rattle.model.specs.Doorbell.{longEnough, Part, partOf, items}
-use Rattle.model.specs.Codes.{codeOf, done, refused}
-use Rattle.model.specs.Events.{Verdict, accept, refuse}
+use Rattle.model.specs.Codes.{codeOf, Verdict, accept, refuse, done, refused}
 use Rattle.doorbell.specs.Served.{takenPart, takenPage, Taken}
 use Rattle.vcpu.specs.Records.{pageOn}
 use Rattle.vcpu_pages.specs.Pages.{pageVerdict, TakenOut, refusedNotice, takeOn, HandedOut, handOn}
-use Rattle.vector_set.specs.Laws.{clash}
+use Rattle.vector_set.proofs.Laws.{clash}
 
 -- a phase that is not the second
 pub not-leaving : (p : Phase) → OneOf (0 ∷ 2 ∷ []) (tagOf phase.the-type p) → isLeaving p ≡ false

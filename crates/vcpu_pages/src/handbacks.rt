@@ -14,7 +14,7 @@ use model::Phase;
 use model::Refusal;
 use model::Vcpu;
 
-// The five sets and the NMI mark emptied, the phase left.
+// The five sets and the NMI mark emptied, the phase left (10.13, 10.14).
 pub fn empty_vcpu(v: Vcpu) -> Vcpu
     ensures { λ r. ⌜ r ≡ emptied v ⌝ }
 {
@@ -35,7 +35,7 @@ fn one_if(b: bool) -> u64
     if b { 1 } else { 0 }
 }
 
-// VMPL, TPR, shadow and IF in one number.
+// VMPL, TPR, shadow and IF in one number (10.12).
 fn summary(vmpl: u32, tpr: u8, iflag: bool, shadow: bool) -> u64
     ensures { λ r. ⌜ r ≡ handBackResult vmpl tpr iflag shadow ⌝ }
 {
@@ -51,7 +51,7 @@ fn refused(c: Refusal) -> HandedOver
     }
 }
 
-// What the record has pending and in service goes to the page; `empty_vcpu` is the record's step.
+// What the record has pending and in service goes to the page (10.2 to 10.12); `empty_vcpu` is the record's step.
 pub fn hand_over(page: &mut [u8], vmpl: u32, v: Vcpu, iflag: bool, shadow: bool) -> HandedOver
     ensures { λ r. ⌜ (handedOut r ≡ handOn (pageVerdict (isLeaving (v .phase)) Refusal.NotLeaving (now (page .entry))) (handBackResult vmpl (v .tpr) iflag shadow))
         × (now (page .exit) ≡ pageOn (pageVerdict (isLeaving (v .phase)) Refusal.NotLeaving (now (page .entry))) (handedPage vmpl (handed v) (now (page .entry))) (now (page .entry))) ⌝ }

@@ -19,7 +19,7 @@ fn refused(c: Refusal) -> NoticeTaken
     }
 }
 
-// Takes what the page admits for a vCPU in the phase, with the set allowed; the record's step adds it.
+// Takes what the page admits for a vCPU in the phase, with the set allowed (4.2 to 4.24, 4.29 to 4.33); the record's step adds it.
 pub fn take(page: &mut [u8], vmpl: u32, phase: Phase, allowed: [u32; 8]) -> NoticeTaken
     ensures { λ r. ⌜ (takenOut r ≡ takeOn (pageVerdict (isActive phase) Refusal.NotActive (now (page .entry))) (takenPart vmpl allowed (now (page .entry))))
         × (now (page .exit) ≡ pageOn (pageVerdict (isActive phase) Refusal.NotActive (now (page .entry))) (takenPage vmpl (now (page .entry))) (now (page .entry))) ⌝ }

@@ -1,12 +1,13 @@
--- Sets of vectors 0 to 255: eight words of 32 bits, the lowest vectors first. Document 01, State: "each an array of 256 bits passed by value".
+-- Sets of vectors 0 to 255: eight words of 32 bits, the lowest vectors first (clause 2.7 of docs/SPECIFICATION.md).
 -- A set is said by its members: `collect f` is the set of the v with f v, and `has s v` says whether v is a member of s.
 -- Assumes nothing.
+use mathlib.Core.Path.{_≡_}
 use mathlib.Core.Bool.{Bool, true, false, cond, not, _&&_, _||_}
 use mathlib.Core.List.{List, [], _∷_}
 use mathlib.Core.Option.{Option, none, some}
-use Prim.Native.Nat.{ℕ, zero, suc, _+_, _*_, _/_, _%_}
+use Prim.Native.Nat.{ℕ, zero, suc, _+_, _*_, _/_, _%_, _^_, _<_}
 use lib.Dec.{eqb, leb, ltb}
-use lib.ListN.{getD}
+use lib.ListN.{length, getD}
 use Rattle.vector_set.specs.declared.Found.{Found}
 use Rattle.vector_set.specs.declared.Found.the-variants.{Vector, Nothing}
 use Rattle.vector_set.specs.Bits.{one, bitAt, bits}
@@ -83,3 +84,8 @@ wordOf s k = bits (λ v. has s v) (32 * k) 32
 abbrev pub vectorOf : Found → Option ℕ
 vectorOf (Vector v) = some v
 vectorOf Nothing = none
+
+-- a set as an array holds it: eight words of 32 bits
+pub record Words (s : List ℕ) : Type 0 where
+  pub eight : length s ≡ 8
+  pub small : (i : ℕ) → i < 8 → getD s i 0 < 2 ^ 32

@@ -7,8 +7,8 @@ use lib.ListN.{getD, List·getD-eq-default}
 use borrow.Author.Needs.{needs}
 use Rattle.vector_set.specs.Bits.{bitAt}
 use Rattle.vector_set.specs.Sets.{has, wordOf}
-use Rattle.vector_set.specs.Laws.{Words, has-word, bits-unique, wordOf-word}
-use Rattle.vector_set.specs.WordLaws.{array-words}
+use Rattle.vector_set.proofs.Laws.{Words, has-word, bits-unique, wordOf-word}
+use Rattle.vector_set.proofs.WordLaws.{array-words}
 use Rattle.apic.proofs.word_at.Statement.{statement}
 use Rattle.apic.proofs.word_at.Tie as tie
 

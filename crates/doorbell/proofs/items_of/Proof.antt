@@ -1,8 +1,8 @@
 -- `doorbell::items_of` meets its contract. There are at most 256 vectors, so the sum fits. Assumes nothing.
 use native.Mathlib.Omega.{arith}
 use Rattle.vector_set.specs.Sets.{vectorOf}
-use Rattle.vector_set.specs.BitLaws.{one-le}
-use Rattle.vector_set.specs.Laws.{count-le}
+use Rattle.vector_set.proofs.BitLaws.{one-le}
+use Rattle.vector_set.proofs.Laws.{count-le}
 use Rattle.model.specs.Doorbell.{isSome, items}
 use borrow.Author.Needs.{needs}
 use Rattle.doorbell.proofs.items_of.Statement.{statement}

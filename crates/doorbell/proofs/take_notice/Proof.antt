@@ -6,10 +6,10 @@ use native.Mathlib.Omega.{arith}
 use lib.ListN.{length, getD, set, take, drop}
 use lib.Bits.{bitAnd}
 use Rattle.model.specs.Doorbell.{bitOf, manyBit, descriptor, admits, clearsBit, clears}
-use Rattle.doorbell.specs.Bytes.{mask-clear, mask-set, spliced}
+use Rattle.doorbell.proofs.Bytes.{mask-clear, mask-set, spliced}
 use Rattle.doorbell.specs.Clear.{clearing}
-use Rattle.doorbell.specs.Notice.{announces-is, mark-is, page-is}
-use Rattle.doorbell.specs.Served.{served, short, too-low, too-high, unserved, unannounced, announced}
+use Rattle.doorbell.proofs.Notice.{announces-is, mark-is, page-is}
+use Rattle.doorbell.proofs.ServedLaws.{served, short, too-low, too-high, unserved, unannounced, announced}
 use borrow.Author.Needs.{needs}
 use Rattle.doorbell.proofs.take_notice.Statement.{statement}
 use Rattle.doorbell.proofs.take_notice.Tie as tie

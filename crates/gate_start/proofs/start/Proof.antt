@@ -11,7 +11,7 @@ use Rattle.model.specs.declared.Outcome.the-variants.{Done, Refused}
 use Rattle.model.specs.declared.Refusal.the-variants.{BadStart}
 use Rattle.model.specs.State.{mayStart, start}
 use Rattle.model.specs.Events.{startResult, doStart, outOf}
-use Rattle.vector_set.specs.Laws.{clash}
+use Rattle.vector_set.proofs.Laws.{clash}
 use Rattle.gate_start.proofs.start.Statement.{statement}
 use Rattle.gate_start.proofs.start.Tie as tie
 

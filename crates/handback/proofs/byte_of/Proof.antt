@@ -1,5 +1,5 @@
 -- `handback::byte_of` meets its contract. Assumes nothing.
-use Rattle.handback.specs.Handed.{set-byte}
+use Rattle.handback.proofs.HandedLaws.{set-byte}
 use borrow.Author.Needs.{needs}
 use Rattle.handback.proofs.byte_of.Statement.{statement}
 use Rattle.handback.proofs.byte_of.Tie as tie

@@ -1,6 +1,6 @@
 -- `handback::flags` meets its contract. Assumes nothing.
 use native.Mathlib.Omega.{arith}
-use Rattle.vector_set.specs.BitLaws.{one-le}
+use Rattle.vector_set.proofs.BitLaws.{one-le}
 use borrow.Author.Needs.{needs}
 use Rattle.handback.proofs.flags.Statement.{statement}
 use Rattle.handback.proofs.flags.Tie as tie

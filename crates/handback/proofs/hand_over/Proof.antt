@@ -3,8 +3,8 @@ use mathlib.Core.Path.{_≡_}
 use Prim.Native.Nat.{_+_, _*_, _-_}
 use native.Mathlib.Omega.{arith}
 use Rattle.model.specs.Doorbell.{handedBytes}
-use Rattle.doorbell.specs.Served.{served, short, too-low, too-high}
-use Rattle.handback.specs.Handed.{unhanded, part-back}
+use Rattle.doorbell.proofs.ServedLaws.{served, short, too-low, too-high}
+use Rattle.handback.proofs.HandedLaws.{unhanded, part-back}
 use borrow.Author.Needs.{needs}
 use Rattle.handback.proofs.hand_over.Statement.{statement}
 use Rattle.handback.proofs.hand_over.Tie as tie

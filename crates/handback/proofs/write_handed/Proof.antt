@@ -2,8 +2,8 @@
 use mathlib.Core.Path.{ap, _∙_}
 use lib.ListN.{length}
 use Rattle.model.specs.Doorbell.{handedBytes, handedBit}
-use Rattle.model.specs.Bytes.{bytesFrom-length}
-use Rattle.handback.specs.Handed.{halves, serving-bytes}
+use Rattle.model.proofs.Bytes.{bytesFrom-length}
+use Rattle.handback.proofs.HandedLaws.{halves, serving-bytes}
 use borrow.Author.Needs.{needs}
 use Rattle.handback.proofs.write_handed.Statement.{statement}
 use Rattle.handback.proofs.write_handed.Tie as tie

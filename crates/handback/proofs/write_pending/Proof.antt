@@ -1,7 +1,7 @@
 -- `handback::write_pending` meets its contract. Assumes nothing.
 use native.Mathlib.Omega.{arith}
 use lib.ListN.{length-set}
-use Rattle.handback.specs.Handed.{pending-bytes}
+use Rattle.handback.proofs.HandedLaws.{pending-bytes}
 use borrow.Author.Needs.{needs}
 use Rattle.handback.proofs.write_pending.Statement.{statement}
 use Rattle.handback.proofs.write_pending.Tie as tie

@@ -8,8 +8,8 @@ use lib.Seq.{ext-getD}
 use Rattle.vector_set.specs.Bits.{bits}
 use Rattle.vector_set.specs.Sets.{has}
 use Rattle.model.specs.Doorbell.{bytesFrom}
-use Rattle.model.specs.Bytes.{bytesFrom-at, bytesFrom-length}
-use Rattle.doorbell.specs.Bytes.{filled}
+use Rattle.model.proofs.Bytes.{bytesFrom-at, bytesFrom-length}
+use Rattle.doorbell.proofs.Bytes.{filled}
 use Rattle.handback.proofs.write_set.Statement.{statement}
 use Rattle.handback.proofs.write_set.Tie as tie
 

@@ -7,7 +7,7 @@ use native.Mathlib.Omega.{arith}
 use lib.Dec.{leb}
 use borrow.Author.Needs.{needs}
 use borrow.Author.Tests.{eq-eqb, ne-eqb, le-leb, lt-leb, leb-true}
-use Rattle.vector_set.specs.Laws.{clash}
+use Rattle.vector_set.proofs.Laws.{clash}
 use Rattle.model.specs.Doorbell.{isVector}
 use Rattle.model.specs.Requests.{writeValue}
 use Rattle.requests.proofs.value_of.Statement.{statement}
@@ -42,16 +42,7 @@ returns-3 c =
 
 returns-4 : tie.Need-returns-4
 unfolding writeValue
-returns-4 c =
-    let r = c .before .before .before .args .r in
-    let n = c .before .before .match .rest in
-    rw (
-      ne-eqb r 0x80B (n .0 .0 .1),
-      ne-eqb r 0x83F (n .0 .1),
-      ne-eqb r 0x808 (n .1),
-      ← c .before .is-legal .ensures,
-      c .if4 .taken,
-    )
+returns-4 c = rw (c .before .before .match .keys4, ← c .before .is-legal .ensures, c .if4 .taken)
 
 returns-5 : tie.Need-returns-5
 unfolding writeValue
@@ -70,17 +61,14 @@ returns-7 c = rw (c .before .before .match .keys3, lt-leb _ _ (c .before .if3 .l
 
 returns-8 : tie.Need-returns-8
 unfolding writeValue
-returns-8 c =
-    let r = c .before .before .before .before .args .r in
-    let n = c .before .before .before .match .rest in
-    rw (
-      ne-eqb r 0x80B (n .0 .0 .1),
-      ne-eqb r 0x83F (n .0 .1),
-      ne-eqb r 0x808 (n .1),
-      ← c .before .before .is-legal .ensures,
-      c .before .if4 .left,
-    )
-    (c .bad4 .ensures)
+returns-8 c = rw (c .before .before .before .match .keys4, ← c .before .before .is-legal .ensures, c .before .if4 .left) (c .bad4 .ensures)
+
+returns-9 : tie.Need-returns-9
+unfolding writeValue
+returns-9 c =
+    let r = c .before .args .r in
+    let n = c .match .rest in
+    rw (ne-eqb r 0x80B (n .0 .0 .0 .1), ne-eqb r 0x83F (n .0 .0 .1), ne-eqb r 0x808 (n .0 .1), ne-eqb r 0x830 (n .1))
 
 pub value-of-spec : {M : Type 1} → statement M
 value-of-spec =
@@ -101,4 +89,5 @@ value-of-spec =
     returns-5
     returns-6
     returns-7
-    returns-8)
+    returns-8
+    returns-9)

@@ -7,7 +7,7 @@ use lib.Pow.{pow-lt, shl-exact}
 use borrow.Author.Needs.{needs}
 use borrow.Author.Tests.{ne-eqb}
 use Rattle.vector_set.specs.Bits.{bits}
-use Rattle.vector_set.specs.BitLaws.{bits-unique, bit-pow, bit-zero}
+use Rattle.vector_set.proofs.BitLaws.{bits-unique, bit-pow, bit-zero}
 use Rattle.vcpu_calls.proofs.bit_of.Statement.{statement}
 use Rattle.vcpu_calls.proofs.bit_of.Tie as tie
 

@@ -1,7 +1,7 @@
 -- `vcpu_entries::gain` meets its contract, by whether the set has the vector. Assumes nothing.
 use mathlib.Core.Path.{sym, _∙_}
 use borrow.Author.Needs.{needs}
-use Rattle.vector_set.specs.WordLaws.{array-words}
+use Rattle.vector_set.proofs.WordLaws.{array-words}
 use Rattle.vcpu_entries.proofs.Sets.{gains-in, gains-out}
 use Rattle.vcpu_entries.proofs.gain.Statement.{statement}
 use Rattle.vcpu_entries.proofs.gain.Tie as tie

@@ -5,8 +5,8 @@ use native.Mathlib.Omega.{arith}
 use lib.ListN.{getD}
 use lib.Count.{ones}
 use Rattle.vector_set.specs.Sets.{count, countBelow}
-use Rattle.vector_set.specs.Laws.{below-le}
-use Rattle.vector_set.specs.WordLaws.{array-words, count-word}
+use Rattle.vector_set.proofs.Laws.{below-le}
+use Rattle.vector_set.proofs.WordLaws.{array-words, count-word}
 use Rattle.vector_set.proofs.count_of.Statement.{statement}
 use Rattle.vector_set.proofs.count_of.Tie as tie
 

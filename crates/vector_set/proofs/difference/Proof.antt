@@ -1,5 +1,5 @@
 -- `vector_set::difference` meets its contract: each word is the and of one and the complement of the other. Assumes nothing.
-use Rattle.vector_set.specs.WordLaws.{array-words, difference-words}
+use Rattle.vector_set.proofs.WordLaws.{array-words, difference-words}
 use lib.Dec.{lit<}
 use Rattle.vector_set.proofs.difference.Statement.{statement}
 use Rattle.vector_set.proofs.difference.Tie as tie

@@ -1,5 +1,5 @@
 -- `vector_set::from_31` meets its contract: the lowest word keeps bit 31, the others stay. Assumes nothing.
-use Rattle.vector_set.specs.WordLaws.{array-words, from-31-words}
+use Rattle.vector_set.proofs.WordLaws.{array-words, from-31-words}
 use lib.Dec.{lit<}
 use Rattle.vector_set.proofs.from_31.Statement.{statement}
 use Rattle.vector_set.proofs.from_31.Tie as tie

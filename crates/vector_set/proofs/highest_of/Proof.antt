@@ -8,8 +8,8 @@ use native.Mathlib.Omega.{arith}
 use lib.ListN.{getD}
 use lib.Count.{leadingZeros}
 use Rattle.vector_set.specs.Sets.{has, highest}
-use Rattle.vector_set.specs.Laws.{highest-no}
-use Rattle.vector_set.specs.WordLaws.{array-words, highest-word, zero-word}
+use Rattle.vector_set.proofs.Laws.{highest-no}
+use Rattle.vector_set.proofs.WordLaws.{array-words, highest-word, zero-word}
 use Rattle.vector_set.proofs.highest_of.Statement.{statement}
 use Rattle.vector_set.proofs.highest_of.Tie as tie
 

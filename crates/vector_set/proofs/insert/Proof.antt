@@ -1,6 +1,6 @@
 -- `vector_set::insert` meets its contract: the word of v gains the bit of v. Assumes nothing.
 use native.Mathlib.Omega.{arith}
-use Rattle.vector_set.specs.WordLaws.{array-words, insert-word}
+use Rattle.vector_set.proofs.WordLaws.{array-words, insert-word}
 use borrow.Author.Needs.{needs}
 use Rattle.vector_set.proofs.insert.Statement.{statement}
 use Rattle.vector_set.proofs.insert.Tie as tie

@@ -1,5 +1,5 @@
 -- `vector_set::intersection` meets its contract: each word is the and of two. Assumes nothing.
-use Rattle.vector_set.specs.WordLaws.{array-words, intersection-words}
+use Rattle.vector_set.proofs.WordLaws.{array-words, intersection-words}
 use lib.Dec.{lit<}
 use Rattle.vector_set.proofs.intersection.Statement.{statement}
 use Rattle.vector_set.proofs.intersection.Tie as tie

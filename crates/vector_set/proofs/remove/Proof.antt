@@ -1,6 +1,6 @@
 -- `vector_set::remove` meets its contract: the word of v loses the bit of v. Assumes nothing.
 use native.Mathlib.Omega.{arith}
-use Rattle.vector_set.specs.WordLaws.{array-words, remove-word}
+use Rattle.vector_set.proofs.WordLaws.{array-words, remove-word}
 use borrow.Author.Needs.{needs}
 use Rattle.vector_set.proofs.remove.Statement.{statement}
 use Rattle.vector_set.proofs.remove.Tie as tie

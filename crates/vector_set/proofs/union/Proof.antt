@@ -1,5 +1,5 @@
 -- `vector_set::union` meets its contract: each word is the or of two. Assumes nothing.
-use Rattle.vector_set.specs.WordLaws.{array-words, union-words}
+use Rattle.vector_set.proofs.WordLaws.{array-words, union-words}
 use lib.Dec.{lit<}
 use Rattle.vector_set.proofs.union.Statement.{statement}
 use Rattle.vector_set.proofs.union.Tie as tie

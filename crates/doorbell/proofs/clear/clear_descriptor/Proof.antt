@@ -6,8 +6,9 @@ use Prim.Native.Nat.{ℕ}
 use lib.Dec.{leb, eqb}
 use lib.ListN.{getD}
 use Rattle.model.specs.Doorbell.{bitOf, clearsBit}
-use Rattle.doorbell.specs.Bytes.{mask-clear, mask-set}
-use Rattle.doorbell.specs.Clear.{clearing, clearing-twice, clearing-ext}
+use Rattle.doorbell.proofs.Bytes.{mask-clear, mask-set}
+use Rattle.doorbell.specs.Clear.{clearing}
+use Rattle.doorbell.proofs.ClearLaws.{clearing-twice, clearing-ext}
 use borrow.Author.Needs.{needs}
 use Rattle.doorbell.proofs.clear.clear_descriptor.Statement.{statement}
 use Rattle.doorbell.proofs.clear.clear_descriptor.Tie as tie

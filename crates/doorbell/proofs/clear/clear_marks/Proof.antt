@@ -12,8 +12,8 @@ use lib.Seq.{getD-set-same, getD-set-other}
 use lib.Bits.{bitAnd}
 use borrow.Author.Tests.{lt-ltb, le-ltb, le-leb, lt-leb}
 use Rattle.vector_set.specs.Bits.{bitAt}
-use Rattle.doorbell.specs.Bytes.{place, filled}
-use Rattle.doorbell.specs.Clear.{Cleared, is-clearing, keeps, zeroes, masks, each8}
+use Rattle.doorbell.proofs.Bytes.{place, filled}
+use Rattle.doorbell.proofs.ClearLaws.{Cleared, is-clearing, keeps, zeroes, masks, each8}
 use Rattle.doorbell.proofs.clear.clear_marks.Statement.{statement}
 use Rattle.doorbell.proofs.clear.clear_marks.Tie as tie
 

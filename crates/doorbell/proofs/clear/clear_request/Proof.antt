@@ -11,8 +11,8 @@ use lib.Seq.{getD-set-same, getD-set-other}
 use lib.Bits.{bitAnd}
 use borrow.Author.Tests.{lt-leb, ne-eqb}
 use Rattle.vector_set.specs.Bits.{bitAt}
-use Rattle.doorbell.specs.Bytes.{place}
-use Rattle.doorbell.specs.Clear.{Cleared, is-clearing, keeps, zeroes, masks, each8}
+use Rattle.doorbell.proofs.Bytes.{place}
+use Rattle.doorbell.proofs.ClearLaws.{Cleared, is-clearing, keeps, zeroes, masks, each8}
 use borrow.Author.Needs.{needs}
 use Rattle.doorbell.proofs.clear.clear_request.Statement.{statement}
 use Rattle.doorbell.proofs.clear.clear_request.Tie as tie

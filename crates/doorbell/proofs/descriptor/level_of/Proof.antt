@@ -5,8 +5,8 @@ use native.Mathlib.Omega.{arith}
 use lib.ListN.{getD}
 use borrow.Author.Tests.{le-leb, lt-leb}
 use Rattle.model.specs.Doorbell.{bitOf}
-use Rattle.doorbell.specs.Bytes.{mask-clear, mask-set}
-use Rattle.doorbell.specs.Admits.{level-is}
+use Rattle.doorbell.proofs.Bytes.{mask-clear, mask-set}
+use Rattle.doorbell.proofs.Admits.{level-is}
 use borrow.Author.Needs.{needs}
 use Rattle.doorbell.proofs.descriptor.level_of.Statement.{statement}
 use Rattle.doorbell.proofs.descriptor.level_of.Tie as tie

@@ -1,7 +1,7 @@
 -- `doorbell::descriptor::many_edges` meets its contract, with and without a level-sensitive vector. Assumes nothing.
 use mathlib.Core.Path.{sym, ap, _∙_}
 use Rattle.vector_set.specs.Sets.{vectorOf}
-use Rattle.doorbell.specs.Admits.{many-some, many-none}
+use Rattle.doorbell.proofs.Admits.{many-some, many-none}
 use borrow.Author.Needs.{needs}
 use Rattle.doorbell.proofs.descriptor.many_edges.Statement.{statement}
 use Rattle.doorbell.proofs.descriptor.many_edges.Tie as tie

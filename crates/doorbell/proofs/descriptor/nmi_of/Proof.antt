@@ -3,7 +3,7 @@ use mathlib.Core.Path.{_≡_}
 use mathlib.Core.Bool.{true, false}
 use lib.ListN.{getD}
 use Rattle.model.specs.Doorbell.{bitOf, admitsNmi}
-use Rattle.doorbell.specs.Bytes.{mask-clear, mask-set}
+use Rattle.doorbell.proofs.Bytes.{mask-clear, mask-set}
 use borrow.Author.Needs.{needs}
 use Rattle.doorbell.proofs.descriptor.nmi_of.Statement.{statement}
 use Rattle.doorbell.proofs.descriptor.nmi_of.Tie as tie

@@ -6,8 +6,8 @@ use lib.ListN.{getD}
 use borrow.Author.Tests.{le-leb, lt-leb}
 use Rattle.vector_set.specs.Sets.{insert}
 use Rattle.model.specs.Doorbell.{bitOf}
-use Rattle.doorbell.specs.Bytes.{mask-clear, mask-set}
-use Rattle.doorbell.specs.Admits.{one-is}
+use Rattle.doorbell.proofs.Bytes.{mask-clear, mask-set}
+use Rattle.doorbell.proofs.Admits.{one-is}
 use borrow.Author.Needs.{needs}
 use Rattle.doorbell.proofs.descriptor.one_edge.Statement.{statement}
 use Rattle.doorbell.proofs.descriptor.one_edge.Tie as tie

@@ -1,8 +1,8 @@
 -- `doorbell::descriptor::read_descriptor` meets its contract: its three parts are the definition's. Assumes nothing.
 use lib.ListN.{getD}
 use Rattle.model.specs.Doorbell.{bitOf}
-use Rattle.doorbell.specs.Bytes.{mask-clear, mask-set}
-use Rattle.doorbell.specs.Admits.{admits-is}
+use Rattle.doorbell.proofs.Bytes.{mask-clear, mask-set}
+use Rattle.doorbell.proofs.Admits.{admits-is}
 use borrow.Author.Needs.{needs}
 use Rattle.doorbell.proofs.descriptor.read_descriptor.Statement.{statement}
 use Rattle.doorbell.proofs.descriptor.read_descriptor.Tie as tie

@@ -1,6 +1,6 @@
 -- `doorbell::descriptor::word_of` meets its contract: a word is four bytes. Assumes nothing.
 use native.Mathlib.Omega.{arith}
-use Rattle.doorbell.specs.Bytes.{word-bytes}
+use Rattle.doorbell.proofs.Bytes.{word-bytes}
 use borrow.Author.Needs.{needs}
 use Rattle.doorbell.proofs.descriptor.word_of.Statement.{statement}
 use Rattle.doorbell.proofs.descriptor.word_of.Tie as tie

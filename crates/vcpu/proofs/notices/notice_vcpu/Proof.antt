@@ -7,8 +7,8 @@ use Prim.Native.Nat.{ℕ}
 use borrow.Author.Needs.{needs}
 use Rattle.vector_set.specs.declared.Found.{Found}
 use Rattle.vector_set.specs.Sets.{insert, union, vectorOf}
-use Rattle.vector_set.specs.Laws.{Words}
-use Rattle.vector_set.specs.WordLaws.{field-words}
+use Rattle.vector_set.proofs.Laws.{Words}
+use Rattle.vector_set.proofs.WordLaws.{field-words}
 use Rattle.model.specs.declared.Vcpu.{Vcpu}
 use Rattle.model.specs.State.{withIrr, withIrrLevel, withNmi}
 use Rattle.model.specs.Events.{noticed}

@@ -6,12 +6,13 @@ use Prim.Native.Nat.{ℕ}
 use borrow.Author.Needs.{needs}
 use Rattle.model.specs.declared.Phase.the-variants.{Left}
 use Rattle.model.specs.State.{withAllowed, withIrr, withIsr, withIrrLevel, withIsrLevel, withNmi, withPhase}
+use Rattle.model.specs.Items.{unmarkAll}
 use Rattle.model.specs.Events.{emptied}
 use Rattle.vcpu_pages.proofs.handbacks.empty_vcpu.Statement.{statement}
 use Rattle.vcpu_pages.proofs.handbacks.empty_vcpu.Tie as tie
 
 returns : tie.Need-returns
-unfolding emptied
+unfolding emptied unmarkAll
 returns c =
     let v = c .before .before .args .v in
     c .with-phase .ensures

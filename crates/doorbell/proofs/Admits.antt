@@ -9,7 +9,7 @@ use lib.Dec.{leb, eqb}
 use lib.ListN.{getD}
 use borrow.Author.Tests.{le-leb, eqb-true}
 use Rattle.vector_set.specs.Sets.{has, collect, empty, insert, remove, intersection, from}
-use Rattle.vector_set.specs.Laws.{has-collect, has-empty, has-from, has-intersection, collect-ext}
+use Rattle.vector_set.proofs.Laws.{has-collect, has-empty, has-from, has-intersection, collect-ext}
 use Rattle.model.specs.Doorbell.{bitOf, levelBit, manyBit, isVector, isLevel, Part, admitsNmi, admitsLevel, admitsEdge, admits}
 
 module _ (a d : List ℕ) where

@@ -9,7 +9,7 @@ use native.Mathlib.Nat.{not-suc-le-zero, le-of-suc-le-suc}
 use lib.ListN.{length, getD, take, drop, length-append, length-drop, List·getD-append}
 use lib.Seq.{getD-append-add, length-take-le}
 use Rattle.vector_set.specs.Bits.{bitAt, bits}
-use Rattle.vector_set.specs.BitLaws.{bits-bit}
+use Rattle.vector_set.proofs.BitLaws.{bits-bit}
 use Rattle.model.specs.Doorbell.{bitOf, bytesFrom, mapBits, written}
 
 -- ---- a bit of bytes is a bit of a byte

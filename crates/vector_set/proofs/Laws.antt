@@ -12,7 +12,8 @@ use lib.ListN.{length, getD}
 use lib.Seq.{ext-getD}
 use borrow.Author.Tests.{eqb-true, eqb-false, eq-eqb, ne-eqb}
 use Rattle.vector_set.specs.Bits.{one, bitAt, bits}
-pub use Rattle.vector_set.specs.BitLaws.{clash, one-eqb, one-le, bits-at, bits-bit, bits-lt, bits-ext, number-ext, bits-number, bits-unique}
+pub use Rattle.vector_set.specs.Sets.{Words}
+pub use Rattle.vector_set.proofs.BitLaws.{clash, one-eqb, one-le, bits-at, bits-bit, bits-lt, bits-ext, number-ext, bits-number, bits-unique}
 use Rattle.vector_set.specs.Sets.{has, words, collect, empty, full, insert, remove, union, difference, intersection, from, highestBelow, highest, countBelow, count, isNone, isEmpty, wordOf}
 
 pub words-at : (f : ℕ → Bool) (k n i : ℕ) → i < n → getD (words f k n) i 0 ≡ bits f (32 * (k + i)) 32
@@ -32,10 +33,6 @@ has-collect f v h =
     rw (words-at f 0 8 (v / 32) i, bits-at f (32 * (0 + v / 32)) 32 (v % 32) b, e) (one-eqb (f v))
 
 -- ---- two sets are equal by their members
-pub record Words (s : List ℕ) : Type 0 where
-  pub eight : length s ≡ 8
-  pub small : (i : ℕ) → i < 8 → getD s i 0 < 2 ^ 32
-
 words-ext : (f g : ℕ → Bool) (k n : ℕ) → ((v : ℕ) → v < 32 * (k + n) → f v ≡ g v) → words f k n ≡ words g k n
 unfolding words
 words-ext f g k zero h = refl

@@ -21,9 +21,9 @@ use denote.Array.{Array}
 use borrow.Author.Needs.{elem-fits}
 use borrow.Author.Tests.{ltb-true, ltb-false, eqb-true, eqb-false, eq-eqb, ne-eqb, le-leb, lt-leb}
 use Rattle.vector_set.specs.Bits.{one, bitAt, bits}
-use Rattle.vector_set.specs.BitLaws.{bits-unique, bit-number, bit-above, bit-top, bit-zero, bit-and, bit-or, bit-not, bit-pow}
+use Rattle.vector_set.proofs.BitLaws.{bits-unique, bit-number, bit-above, bit-top, bit-zero, bit-and, bit-or, bit-not, bit-pow}
 use Rattle.vector_set.specs.Sets.{has, words, collect, insert, remove, union, difference, intersection, from, highest, countBelow}
-use Rattle.vector_set.specs.Laws.{Words, has-word, words-at, collect-words, highest-is}
+use Rattle.vector_set.proofs.Laws.{Words, has-word, words-at, collect-words, highest-is}
 
 -- ---- arrays of the code
 -- an array [u32; 8] of a parameter (`c .good`) or of a call's result (`.ok`) is eight words

@@ -16,9 +16,9 @@ use lib.Bits.{bitAnd, and-high}
 use borrow.Author.Tests.{ltb-true, ltb-false}
 use borrow.Author.Count.{below-more}
 use Rattle.vector_set.specs.Bits.{one, bitAt, bits}
-use Rattle.vector_set.specs.BitLaws.{bits-bit, bits-lt, bits-unique, bit-number}
+use Rattle.vector_set.proofs.BitLaws.{bits-bit, bits-lt, bits-unique, bit-number}
 use Rattle.model.specs.Doorbell.{bitOf, bytesFrom, mapBits}
-pub use Rattle.model.specs.Bytes.{bitOf-byte, bytesFrom-at, bytesFrom-length}
+pub use Rattle.model.proofs.Bytes.{bitOf-byte, bytesFrom-at, bytesFrom-length}
 
 -- where an index stands beside another
 pub split : (j n : ℕ) → (j < n) ⊎ (n ≤ j)

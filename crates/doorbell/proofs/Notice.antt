@@ -14,10 +14,11 @@ use lib.Bits.{bitAnd}
 use lib.Pow.{pow-lt}
 use borrow.Author.Tests.{lt-leb, le-leb, lt-ltb, le-ltb, eq-eqb, ne-eqb, eqb-true, eqb-false}
 use Rattle.vector_set.specs.Bits.{bitAt}
-use Rattle.vector_set.specs.BitLaws.{bit-not, bit-pow}
+use Rattle.vector_set.proofs.BitLaws.{bit-not, bit-pow}
 use Rattle.model.specs.Doorbell.{bitOf, announces, clearsBit, clears}
-use Rattle.doorbell.specs.Bytes.{split, place, spliced, spliced-length, spliced-before, spliced-in, spliced-after}
-use Rattle.doorbell.specs.Clear.{clearing, Cleared, cleared-at, clearing-length, is-clearing, keeps, masks}
+use Rattle.doorbell.proofs.Bytes.{split, place, spliced, spliced-length, spliced-before, spliced-in, spliced-after}
+use Rattle.doorbell.specs.Clear.{clearing}
+use Rattle.doorbell.proofs.ClearLaws.{Cleared, cleared-at, clearing-length, is-clearing, keeps, masks}
 
 eqb-same : (a b c d : ℕ) → (a ≡ b → c ≡ d) → (c ≡ d → a ≡ b) → eqb a b ≡ eqb c d
 eqb-same a b c d f g = go (eqb a b) refl
@@ -44,17 +45,17 @@ module _ (l : ℕ) (many : Bool) (low : 1 ≤ l) (high : l ≤ 3) where
   clears-mark : (b : ℕ) → b < 8 → clears l many (8 * 3 + b) ≡ eqb b (l - 1)
   unfolding clears
   clears-mark b r =
-      rw (lt-leb (512 * l) (8 * 3 + b) (omega arith), or-false (eqb (8 * 3 + b) (8 * 2 + (7 + l))))
+      rw (lt-leb (8 * (64 * l)) (8 * 3 + b) (omega arith), or-false (eqb (8 * 3 + b) (8 * 2 + (7 + l))))
       (eqb-same (8 * 3 + b) (8 * 2 + (7 + l)) b (l - 1) (λ (q : 8 * 3 + b ≡ 8 * 2 + (7 + l)). omega arith) (λ (q : b ≡ l - 1). omega arith))
 
   clears-in : (i b : ℕ) → i < 32 → b < 8 → clears l many (8 * (64 * l + i) + b) ≡ clearsBit many (8 * i + b)
   unfolding clears
   clears-in i b h r =
-      let e : 8 * (64 * l + i) + b - 512 * l ≡ 8 * i + b = omega arith in
+      let e : 8 * (64 * l + i) + b - 8 * (64 * l) ≡ 8 * i + b = omega arith in
       rw (
         ne-eqb (8 * (64 * l + i) + b) (8 * 2 + (7 + l)) (λ (q : 8 * (64 * l + i) + b ≡ 8 * 2 + (7 + l)). omega arith),
-        le-leb (512 * l) (8 * (64 * l + i) + b) (omega arith),
-        lt-ltb (8 * (64 * l + i) + b) (512 * l + 256) (omega arith),
+        le-leb (8 * (64 * l)) (8 * (64 * l + i) + b) (omega arith),
+        lt-ltb (8 * (64 * l + i) + b) (8 * (64 * l) + 256) (omega arith),
         e,
       )
 
@@ -63,7 +64,7 @@ module _ (l : ℕ) (many : Bool) (low : 1 ≤ l) (high : l ≤ 3) where
   clears-before j b n h r =
       rw (
         ne-eqb (8 * j + b) (8 * 2 + (7 + l)) (λ (q : 8 * j + b ≡ 8 * 2 + (7 + l)). n (omega arith)),
-        lt-leb (512 * l) (8 * j + b) (omega arith),
+        lt-leb (8 * (64 * l)) (8 * j + b) (omega arith),
       )
 
   clears-after : (j b : ℕ) → 64 * l + 32 ≤ j → b < 8 → clears l many (8 * j + b) ≡ false
@@ -71,8 +72,8 @@ module _ (l : ℕ) (many : Bool) (low : 1 ≤ l) (high : l ≤ 3) where
   clears-after j b h r =
       rw (
         ne-eqb (8 * j + b) (8 * 2 + (7 + l)) (λ (q : 8 * j + b ≡ 8 * 2 + (7 + l)). omega arith),
-        le-leb (512 * l) (8 * j + b) (omega arith),
-        le-ltb (8 * j + b) (512 * l + 256) (omega arith),
+        le-leb (8 * (64 * l)) (8 * j + b) (omega arith),
+        le-ltb (8 * j + b) (8 * (64 * l) + 256) (omega arith),
       )
 
   -- ---- the page, byte by byte

@@ -1,5 +1,4 @@
--- The descriptor that a hand-back writes, read again by the notice rule. Demand 2: "a descriptor we hand back, read again by the notice rule with work
--- announced and everything allowed, gives the NMI, the edge set and the highest level-sensitive vector that were pending."
+-- The descriptor that a hand-back writes, read again by the notice rule.
 -- Assumes nothing.
 use mathlib.Core.Path.{_≡_, refl, sym, ap, _∙_}
 use mathlib.Core.Bool.{Bool, true, false, cond, not, _&&_, _||_}
@@ -14,21 +13,14 @@ use borrow.Author.Tests.{leb-true, leb-false, le-leb, lt-leb, eqb-true, eq-eqb, 
 use Rattle.model.specs.declared.Vcpu.{Vcpu}
 use Rattle.model.specs.Doorbell.{bitOf, bytesFrom, mapBits, announcingBit, announces, descriptor, vectorField, nmiBit, levelBit, manyBit, isVector, Part, isLevel, admitsNmi, admitsLevel, admitsEdge, admits, admitted, handedBit, servingBit, handedBytes, written}
 use Rattle.model.specs.Events.{handed}
+use Rattle.model.specs.Demand2.{announce, pendingPart}
 use Rattle.model.specs.Reached.{Levelled, Sound}
-use Rattle.model.specs.Tests.{or-false, or-true, and-true, and-false, eqb-above, eqb-below}
-use Rattle.model.specs.Bytes.{bitOf-byte, bytesFrom-at, bytesFrom-length, bytesFrom-bit, mapBits-length, mapBits-bit, written-length, written-at}
+use Rattle.model.proofs.Tests.{or-false, or-true, and-true, and-false, eqb-above, eqb-below}
+use Rattle.model.proofs.Bytes.{bitOf-byte, bytesFrom-at, bytesFrom-length, bytesFrom-bit, mapBits-length, mapBits-bit, written-length, written-at}
 use Rattle.vector_set.specs.Bits.{bitAt, bits}
 use Rattle.vector_set.specs.Sets.{has, collect, full, difference, highest, isNone, isEmpty}
-use Rattle.vector_set.specs.BitLaws.{bits-bit, bits-lt, bits-unique}
-use Rattle.vector_set.specs.Laws.{clash, has-full, collect-ext, has-collect, highest-has, isEmpty-has}
-
--- "with work announced": the page with bit 7 + L of InjectionInfo set
-unfoldable pub announce : ℕ → List ℕ → List ℕ
-announce l p = mapBits (λ k b. b || eqb k (announcingBit l)) p
-
--- "the NMI, the edge set and the highest level-sensitive vector that were pending"
-unfoldable pub pending : Vcpu → Part
-pending v = record { nmi = v .nmi; level = highest (v .«irr_level»); edge = difference (v .irr) (v .«irr_level») }
+use Rattle.vector_set.proofs.BitLaws.{bits-bit, bits-lt, bits-unique}
+use Rattle.vector_set.proofs.Laws.{clash, has-full, collect-ext, has-collect, highest-has, isEmpty-has}
 
 -- ---- the page
 announced : (l : ℕ) (q : List ℕ) → 256 ≤ length q → l ≤ 3 → announces l (announce l q) ≡ true
@@ -42,13 +34,13 @@ unfolding handed handedBytes
 handed-length v = simp (length-append, bytesFrom-length)
 
 -- the first 32 bytes, by their bits
-descriptorBit : Vcpu → ℕ → Bool
-descriptorBit v = handedBit (v .irr) (v .«irr_level») (v .nmi)
+handedAt : Vcpu → ℕ → Bool
+handedAt v = handedBit (v .irr) (v .«irr_level») (v .nmi)
 
-handed-at : (v : Vcpu) (j : ℕ) → j < 32 → getD (handed v) j 0 ≡ bits (descriptorBit v) (8 * (0 + j)) 8
-unfolding handed handedBytes descriptorBit
+handed-at : (v : Vcpu) (j : ℕ) → j < 32 → getD (handed v) j 0 ≡ bits (handedAt v) (8 * (0 + j)) 8
+unfolding handed handedBytes handedAt
 handed-at v j h =
-    let f = descriptorBit v in
+    let f = handedAt v in
     let s = bytesFrom (servingBit (v .isr) (v .«isr_level»)) 0 32 in
     List·getD-append (bytesFrom f 0 32) s 0 j (omega (arith, bytesFrom-length f 0 32)) ∙ bytesFrom-at f 0 32 j h
 
@@ -64,44 +56,44 @@ module _ (l : ℕ) (v : Vcpu) (p : List ℕ) (low : 1 ≤ l) (high : l ≤ 3) (l
   set-bit k = bitOf after k || eqb k (announcingBit l)
 
   -- bit b of byte j of the descriptor
-  bit-at : (j b : ℕ) → j < 32 → b < 8 → set-bit (8 * (0 + (64 * l + j)) + b) ≡ descriptorBit v (8 * (0 + j) + b)
+  bit-at : (j b : ℕ) → j < 32 → b < 8 → set-bit (8 * (0 + (64 * l + j)) + b) ≡ handedAt v (8 * (0 + j) + b)
   unfolding set-bit
   bit-at j b hj hb =
       let e : 8 * (0 + (64 * l + j)) + b ≡ 8 * (64 * l + j) + b = omega arith in
       rw (e, ne-eqb (8 * (64 * l + j) + b) (announcingBit l) (λ (q : 8 * (64 * l + j) + b ≡ announcingBit l). omega arith), or-false)
       (bitOf-byte after (64 * l + j) b hb
       ∙ ap (λ (x : ℕ). bitAt x b) (written-at l (handed v) p (omega arith) (handed-length v) j (omega arith) ∙ handed-at v j hj)
-      ∙ bits-bit (descriptorBit v) (8 * (0 + j)) 8 b hb)
+      ∙ bits-bit (handedAt v) (8 * (0 + j)) 8 b hb)
 
   announce-length : length (announce l after) ≡ length p
   unfolding announce
   announce-length = mapBits-length _ after ∙ after-length
 
-  announce-at : (j : ℕ) → j < 32 → getD (announce l after) (64 * l + j) 0 ≡ bits (descriptorBit v) (8 * (0 + j)) 8
+  announce-at : (j : ℕ) → j < 32 → getD (announce l after) (64 * l + j) 0 ≡ bits (handedAt v) (8 * (0 + j)) 8
   unfolding announce mapBits set-bit
   announce-at j h =
       bytesFrom-at set-bit 0 (length after) (64 * l + j) (omega (arith, after-length))
-      ∙ bits-unique (descriptorBit v) (8 * (0 + j)) 8 _ (bits-lt set-bit (8 * (0 + (64 * l + j))) 8)
+      ∙ bits-unique (handedAt v) (8 * (0 + j)) 8 _ (bits-lt set-bit (8 * (0 + (64 * l + j))) 8)
       (λ b k. bits-bit set-bit (8 * (0 + (64 * l + j))) 8 b k ∙ bit-at j b h k)
 
-  descriptor-is : descriptor l (announce l after) ≡ bytesFrom (descriptorBit v) 0 32
+  descriptor-is : descriptor l (announce l after) ≡ bytesFrom (handedAt v) 0 32
   unfolding descriptor
-  descriptor-is = ext-getD 0 (descriptor l (announce l after)) (bytesFrom (descriptorBit v) 0 32) (size ∙ sym (bytesFrom-length _ 0 32)) (λ j h. byte j (omega (arith, size)))
+  descriptor-is = ext-getD 0 (descriptor l (announce l after)) (bytesFrom (handedAt v) 0 32) (size ∙ sym (bytesFrom-length _ 0 32)) (λ j h. byte j (omega (arith, size)))
     where
       size : length (descriptor l (announce l after)) ≡ 32
       size = simp (length-take, length-drop, announce-length) (omega arith)
 
-      byte : (j : ℕ) → j < 32 → getD (descriptor l (announce l after)) j 0 ≡ getD (bytesFrom (descriptorBit v) 0 32) j 0
+      byte : (j : ℕ) → j < 32 → getD (descriptor l (announce l after)) j 0 ≡ getD (bytesFrom (handedAt v) 0 32) j 0
       byte j h =
           getD-take 32 (drop (64 * l) (announce l after)) j 0 h
           ∙ getD-drop (64 * l) (announce l after) j 0
           ∙ announce-at j h
-          ∙ sym (bytesFrom-at (descriptorBit v) 0 32 j h)
+          ∙ sym (bytesFrom-at (handedAt v) 0 32 j h)
 
 -- ---- what the notice rule reads in it
 module _ (v : Vcpu) (sound : Levelled (v .irr) (v .«irr_level»)) where
   abbrev d : List ℕ
-  d = bytesFrom (descriptorBit v) 0 32
+  d = bytesFrom (handedAt v) 0 32
 
   abbrev irr : ℕ → Bool
   irr x = has (v .irr) x
@@ -109,33 +101,33 @@ module _ (v : Vcpu) (sound : Levelled (v .irr) (v .«irr_level»)) where
   abbrev level : ℕ → Bool
   level x = has (v .«irr_level») x
 
-  -- "members 31 to 255 of P without PL"
+  -- the edge part of P
   abbrev edges : List ℕ
   edges = collect (λ x. isVector x && irr x && not (level x))
 
-  bit : (k : ℕ) → k < 256 → bitOf d k ≡ descriptorBit v k
-  bit k h = bytesFrom-bit (descriptorBit v) 32 k h
+  bit : (k : ℕ) → k < 256 → bitOf d k ≡ handedAt v k
+  bit k h = bytesFrom-bit (handedAt v) 32 k h
 
   bit-nmi : bitOf d nmiBit ≡ v .nmi
-  unfolding descriptorBit handedBit
+  unfolding handedAt handedBit
   bit-nmi = bit 8 (omega arith) ∙ simp or-false
 
   bit-level : bitOf d levelBit ≡ not (isEmpty (v .«irr_level»))
-  unfolding descriptorBit handedBit
+  unfolding handedAt handedBit
   bit-level = bit 10 (omega arith) ∙ simp or-false
 
   bit-many : bitOf d manyBit ≡ not (isEmpty edges)
-  unfolding descriptorBit handedBit
+  unfolding handedAt handedBit
   bit-many = bit 14 (omega arith) ∙ simp or-false
 
   bit-vector : (x : ℕ) → 31 ≤ x → x < 256 → bitOf d x ≡ (irr x && not (level x))
-  unfolding descriptorBit handedBit
+  unfolding handedAt handedBit
   bit-vector x g h =
       bit x h
       ∙ rw (lt-leb x 7 (omega arith), eqb-above x 8 (omega arith), eqb-above x 10 (omega arith), eqb-above x 14 (omega arith), le-leb 31 x g, le-leb x 255 (omega arith))
 
-  bit-field : (b : ℕ) → b < 8 → descriptorBit v b ≡ bitAt (Option·getD (highest (v .«irr_level»)) 0) b
-  unfolding descriptorBit handedBit
+  bit-field : (b : ℕ) → b < 8 → handedAt v b ≡ bitAt (Option·getD (highest (v .«irr_level»)) 0) b
+  unfolding handedAt handedBit
   bit-field b h =
       rw (le-leb b 7 (omega arith), eqb-below b 8 (omega arith), eqb-below b 10 (omega arith), eqb-below b 14 (omega arith), lt-leb 31 b (omega arith))
       (simp or-false)
@@ -143,8 +135,8 @@ module _ (v : Vcpu) (sound : Levelled (v .irr) (v .«irr_level»)) where
   -- bits 7:0
   reads-field : vectorField d ≡ Option·getD (highest (v .«irr_level»)) 0
   reads-field =
-      bytesFrom-at (descriptorBit v) 0 32 0 (omega arith)
-      ∙ sym (bits-unique (descriptorBit v) 0 8 (Option·getD (highest (v .«irr_level»)) 0) (small (highest (v .«irr_level»)) refl) (λ b h. let e : 0 + b ≡ b = omega arith in rw e (sym (bit-field b h))))
+      bytesFrom-at (handedAt v) 0 32 0 (omega arith)
+      ∙ sym (bits-unique (handedAt v) 0 8 (Option·getD (highest (v .«irr_level»)) 0) (small (highest (v .«irr_level»)) refl) (λ b h. let e : 0 + b ≡ b = omega arith in rw e (sym (bit-field b h))))
     where
       small : (o : Option ℕ) → highest (v .«irr_level») ≡ o → Option·getD o 0 < 2 ^ 8
       small none e = omega arith
@@ -225,13 +217,13 @@ module _ (v : Vcpu) (sound : Levelled (v .irr) (v .«irr_level»)) where
           let g = leb-true 31 x e in
           rw (le-leb x 255 (omega arith), has-full x h, bit-vector x g h) (high-edge x g h)
 
-  reads : admits full d ≡ pending v
-  unfolding admits pending difference
+  reads : admits full d ≡ pendingPart v
+  unfolding admits pendingPart difference
   reads = rw (reads-nmi, reads-level, collect-ext (admitsEdge full d) (λ x. irr x && not (level x)) reads-edge)
 
 -- ---- the read-back of the page that a hand-back leaves, from any sound record
 pub read-back : (l : ℕ) (v : Vcpu) (p : List ℕ) → Sound v → 1 ≤ l → l ≤ 3 → 256 ≤ length p
-    → admitted l full (announce l (written l (handed v) p)) ≡ pending v
+    → admitted l full (announce l (written l (handed v) p)) ≡ pendingPart v
 unfolding admitted
 read-back l v p s low high long =
     rw (announced l (written l (handed v) p) (omega (arith, after-length l v p low high long)) high, descriptor-is l v p low high long)

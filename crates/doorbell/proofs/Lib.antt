@@ -1,0 +1,5 @@
+pub mod Admits
+pub mod Bytes
+pub mod ClearLaws
+pub mod Notice
+pub mod ServedLaws

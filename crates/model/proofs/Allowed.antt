@@ -1,0 +1,92 @@
+-- What a notice admits is in the set that it was judged by, and is the NMI or a vector 31 to 255.
+-- Assumes nothing.
+use mathlib.Core.Path.{_≡_, refl, _∙_}
+use mathlib.Core.Bool.{Bool, true, false, cond, _&&_, _||_}
+use mathlib.Core.List.{List}
+use mathlib.Core.Option.{Option, none, some}
+use Prim.Native.Nat.{ℕ, _≤_}
+use lib.Dec.{leb, ltb}
+use borrow.Author.Tests.{eqb-true, leb-true}
+use Rattle.model.specs.declared.Item.{Item}
+use Rattle.model.specs.declared.Item.the-variants as item
+use Rattle.model.specs.State.{isActive}
+use Rattle.model.specs.Items.{InRange, memberOf}
+use Rattle.model.specs.Doorbell.{longEnough, bitOf, announces, descriptor, vectorField, nmiBit, levelBit, isVector, inPart, noPart, isLevel, admitsNmi, admitsLevel, admitsEdge, admits, admitted}
+use Rattle.model.specs.Events.{Bytes, Event}
+use Rattle.model.specs.Book.{Book, recordAt, noticePage, partOn, partBy}
+use Rattle.model.specs.Demand3.{IsVector}
+use Rattle.vector_set.specs.Sets.{has, empty}
+use Rattle.vector_set.proofs.Laws.{clash, has-collect, has-empty}
+use Rattle.model.proofs.Tests.{or-false}
+
+pub and-right : (a b : Bool) → (a && b) ≡ true → b ≡ true
+and-right true b h = h
+and-right false b h = clash (cc)
+
+pub and-left : (a b : Bool) → (a && b) ≡ true → a ≡ true
+and-left true b h = refl
+and-left false b h = clash (cc)
+
+-- nothing is in the empty part
+pub none-in : (x : Item) → InRange x → inPart x noPart ≡ false
+unfolding noPart
+none-in item.Nmi r = refl
+none-in (item.Vector v) r = or-false (has empty v) ∙ has-empty v r
+
+none-admitted : {A : Type 0} (x : Item) → InRange x → inPart x noPart ≡ true → A
+none-admitted x r h = let z = none-in x r in clash (cc)
+
+pub is-vector : (x : ℕ) → isVector x ≡ true → 31 ≤ x
+is-vector x e = leb-true 31 x (and-left (leb 31 x) (leb x 255) e)
+
+-- what an admitted item x shows under the set a
+abbrev pub Fits : List ℕ → Item → Type 0
+Fits a x = (has a (memberOf x) ≡ true) × IsVector x
+
+level-fits : (a d : List ℕ) (v : ℕ) → isLevel (admitsLevel a d) v ≡ true → Fits a (item.Vector v)
+unfolding admitsLevel
+level-fits a d v = pick (bitOf d levelBit) (isVector (vectorField d)) (has a (vectorField d)) refl refl
+  where
+    pick : (b c e : Bool) → isVector (vectorField d) ≡ c → has a (vectorField d) ≡ e
+        → isLevel (cond (b && c && e) (some (vectorField d)) none) v ≡ true → Fits a (item.Vector v)
+    pick true true true p q h = rw (eqb-true v (vectorField d) h) (q, is-vector (vectorField d) p)
+    pick true true false p q h = clash (cc)
+    pick true false e p q h = clash (cc)
+    pick false c e p q h = clash (cc)
+
+edge-fits : (a d : List ℕ) (v : ℕ) → admitsEdge a d v ≡ true → Fits a (item.Vector v)
+unfolding admitsEdge
+edge-fits a d v h =
+    let g : (isVector v && has a v) ≡ true = and-left (isVector v && has a v) _ h in
+    (and-right (isVector v) (has a v) g, is-vector v (and-left (isVector v) (has a v) g))
+
+admits-fits : (a d : List ℕ) (x : Item) → InRange x → inPart x (admits a d) ≡ true → Fits a x
+unfolding admits admitsNmi
+admits-fits a d item.Nmi r h = (and-right (bitOf d nmiBit) (has a 2) h, tt)
+admits-fits a d (item.Vector v) r h = pick (admitsEdge a d v) (isLevel (admitsLevel a d) v) refl refl (rw (has-collect (admitsEdge a d) v r) at h)
+  where
+    pick : (b c : Bool) → admitsEdge a d v ≡ b → isLevel (admitsLevel a d) v ≡ c → (b || c) ≡ true → Fits a (item.Vector v)
+    pick true c e f h = edge-fits a d v e
+    pick false true e f h = level-fits a d v f
+    pick false false e f h = clash (cc)
+
+pub admitted-fits : (l : ℕ) (a : List ℕ) (p : Bytes) (x : Item) → InRange x → inPart x (admitted l a p) ≡ true → Fits a x
+unfolding admitted
+admitted-fits l a p x r = pick (announces l p)
+  where
+    pick : (b : Bool) → inPart x (cond b (admits a (descriptor l p)) noPart) ≡ true → Fits a x
+    pick true h = admits-fits a (descriptor l p) x r h
+    pick false h = none-admitted x r h
+
+-- what an event admits by the book, under the book's set of its vCPU
+pub part-fits : (l : ℕ) (w : Book) (e : Event) (x : Item) → InRange x → inPart x (partBy l w e) ≡ true → Fits (recordAt w (e .vcpu) .allowed) x
+unfolding partOn
+part-fits l w e x r h = over (noticePage (e .act)) h
+  where
+    pick : (p : Bytes) (b : Bool) → inPart x (cond b (admitted l (recordAt w (e .vcpu) .allowed) p) noPart) ≡ true → Fits (recordAt w (e .vcpu) .allowed) x
+    pick p true h = admitted-fits l (recordAt w (e .vcpu) .allowed) p x r h
+    pick p false h = none-admitted x r h
+
+    over : (o : Option Bytes) → inPart x (partOn l w (e .vcpu) o) ≡ true → Fits (recordAt w (e .vcpu) .allowed) x
+    over none h = none-admitted x r h
+    over (some p) h = pick p (ltb (e .vcpu) (w .n) && isActive (recordAt w (e .vcpu) .phase) && longEnough p) h

@@ -1,0 +1,80 @@
+-- Demand 3, proved from any module value and for what start gives.
+-- Assumes nothing.
+use mathlib.Core.Path.{_≡_, refl, subst}
+use mathlib.Core.Bool.{Bool, true, false, cond, _&&_}
+use mathlib.Core.List.{List, map}
+use Prim.Native.Nat.{ℕ, _+_, _≤_}
+use native.Mathlib.Omega.{arith}
+use lib.Dec.{leb}
+use Rattle.model.specs.declared.Phase.{Phase}
+use Rattle.model.specs.declared.Item.{Item}
+use Rattle.model.specs.declared.Item.the-variants as item
+use Rattle.model.specs.declared.Module.{Module}
+use Rattle.model.specs.State.{bare, size, vcpuAt, started, stopped, start}
+use Rattle.model.specs.Codes.{accept, refuse}
+use Rattle.model.specs.Items.{InRange, pending}
+use Rattle.model.specs.Doorbell.{items, admitted}
+use Rattle.model.specs.Events.{notice, at, Bytes, Event, effect, concluded, Out, step, final}
+use Rattle.model.specs.Book.{bookOf, feedAll, note, partBy}
+use Rattle.model.specs.Ledger.{ledgerOf}
+use Rattle.model.specs.Demand3.{bookAfter, Exact, Isolated, Demand3}
+use Rattle.vector_set.specs.Bits.{one}
+use Rattle.vector_set.proofs.Laws.{has-empty}
+use Rattle.model.proofs.Stored.{by-verdict}
+use Rattle.model.proofs.Follow.{follow-all, struck-book, part-accepted, part-refused, vmpl-final}
+use Rattle.model.proofs.Alike.{alike}
+use Rattle.model.proofs.Allowed.{part-fits}
+use Rattle.model.proofs.Bound.{bounded}
+use Rattle.model.proofs.Reached.{everywhere-start}
+
+-- ---- an accepted notice gives the number of its items by the book, a refused one admits nothing
+exact-at : (m : Module) (i : ℕ) (p : Bytes) → Exact (step m (at i (notice p)) .result) (partBy (m .vmpl) (bookOf m) (at i (notice p)))
+unfolding concluded effect
+exact-at m i p =
+    by-verdict m (at i (notice p)) (λ o. Exact (o .result) (partBy (m .vmpl) (bookOf m) (at i (notice p))))
+    (λ c h. part-refused m i p c h) (λ h. rw (part-accepted m i p h))
+
+exact-after : (m : Module) (es : List Event) (i : ℕ) (p : Bytes)
+    → Exact (step (final m es) (at i (notice p)) .result) (partBy (m .vmpl) (bookAfter m es) (at i (notice p)))
+exact-after m es i p =
+    rw (follow-all es m)
+    (subst (λ (k : ℕ). Exact (step (final m es) (at i (notice p)) .result) (partBy k (bookOf (final m es)) (at i (notice p)))) (vmpl-final es m)
+    (exact-at (final m es) i p))
+
+-- ---- from any module value
+pub isolated : (m : Module) → Isolated m
+isolated m =
+    record {
+      same = λ ds es a h. alike m a h;
+      book = λ es. follow-all es m;
+      unread = λ es. struck-book es (bookOf m);
+      allowed = λ es e x r h. part-fits (m .vmpl) (bookAfter m es) e x r h;
+      exact = exact-after m;
+      most = bounded m;
+    }
+
+-- ---- what start gives
+nothing-pending : (x : Item) → InRange x → (p : Phase) → one (pending x (bare p)) ≤ 0
+unfolding bare
+nothing-pending item.Nmi r p = omega arith
+nothing-pending (item.Vector v) r p = rw (has-empty v r) (omega arith)
+
+pub demand3 : (n l : ℕ) → Demand3 n l
+demand3 n l =
+    record {
+      isolated = isolated (start n l);
+      most = λ es j x r. (let q = everywhere-start (λ v. one (pending x v) ≤ 0) (nothing-pending x r) n l j in omega (arith, q, bounded (start n l) es j x r));
+    }
+
+-- the book's n at first is the n of the module that start gives
+pub size-start : (n l : ℕ) → bookOf (start n l) .n ≡ start n l .n
+unfolding bookOf size start started stopped
+size-start n l = pick (leb 1 n) (leb n 32) (leb 1 l) (leb l 3) refl refl refl
+  where
+    pick : (a b c d : Bool) → leb n 32 ≡ b → leb 1 l ≡ c → leb l 3 ≡ d
+        → size (cond (a && b && c && d) (started n l) stopped) ≡ cond (a && b && c && d) (started n l) stopped .n
+    pick true true true true p q r = rw (p, q, r)
+    pick true true true false p q r = refl
+    pick true true false d p q r = refl
+    pick true false c d p q r = refl
+    pick false b c d p q r = refl

@@ -1,0 +1,15 @@
+pub mod Tests
+pub mod Bytes
+pub mod Stored
+pub mod ItemLaws
+pub mod Follow
+pub mod Alike
+pub mod Allowed
+pub mod Bound
+pub mod Reached
+pub mod Kept
+pub mod ReadBack
+pub mod Demand1
+pub mod Demand2
+pub mod Demand3
+pub mod Starred

@@ -1,0 +1,16 @@
+-- The worked cases marked *, computed.
+-- Assumes nothing.
+use mathlib.Core.Path.{_≡_, refl}
+use Rattle.vector_set.specs.Bits.{bits}
+use Rattle.vector_set.specs.Sets.{has, words, collect, empty, full, insert, remove, union, difference, highestBelow, highest, countBelow, count, isEmpty, wordOf}
+use Rattle.model.specs.State.{bare, size, vcpuAt, started, start, stopped, withVcpu, withRegistrations}
+use Rattle.model.specs.Items.{mark, unmark, markAll, unmarkAll}
+use Rattle.model.specs.Doorbell.{bitOf, bytesFrom, mapBits, announces, descriptor, noPart, admitsNmi, admitsLevel, admitsEdge, admits, admitted, items, clearsBit, clears, noticedPage, handedBit, servingBit, handedBytes, written}
+use Rattle.model.specs.Registers.{isRead, isWrite, isBoth, kindOf, pprOf, ppr, ldr, tmr, registerValue, endedAt, ended, endedLevelAt, endedLevel}
+use Rattle.model.specs.Requests.{registration, writeValue, nameable, permission, requestOf, serve, callVerdict}
+use Rattle.model.specs.Events.{noticed, offerHighest, offer, present, entered, emptied, handed, handBackResult, vcpuVerdict, verdict, callEffect, effect, concluded, step}
+use Rattle.model.specs.Cases.{cases, Starred}
+
+pub starred : Starred
+unfolding Starred cases bits has words collect empty full insert remove union difference highestBelow highest countBelow count isEmpty wordOf bare size vcpuAt started start stopped withVcpu withRegistrations mark unmark markAll unmarkAll bitOf bytesFrom mapBits announces descriptor noPart admitsNmi admitsLevel admitsEdge admits admitted items clearsBit clears noticedPage handedBit servingBit handedBytes written isRead isWrite isBoth kindOf pprOf ppr ldr tmr registerValue endedAt ended endedLevelAt endedLevel registration writeValue nameable permission requestOf serve callVerdict noticed offerHighest offer present entered emptied handed handBackResult vcpuVerdict verdict callEffect effect concluded step
+starred = refl

@@ -1,0 +1,127 @@
+-- A module's record after one was stored and after an IPI, and the step of an event by its verdict: the laws on which all claims stand.
+-- Assumes nothing.
+use mathlib.Core.Path.{_≡_, refl, sym, ap, subst}
+use mathlib.Core.Bool.{Bool, true, false, cond, _&&_}
+use mathlib.Core.List.{List, [], _∷_}
+use Prim.Native.Nat.{ℕ, zero, suc, _+_, _<_}
+use native.Mathlib.Omega.{arith}
+use lib.Dec.{ltb, eqb}
+use lib.ListN.{length, getD, set, List·getD-eq-default}
+use lib.Seq.{getD-set-same, getD-set-other}
+use borrow.Author.Tests.{eqb-true, eqb-false, ltb-true, ltb-false}
+use Rattle.model.specs.declared.Phase.{Phase}
+use Rattle.model.specs.declared.Phase.the-variants.{Left}
+use Rattle.model.specs.declared.Item.{Item}
+use Rattle.model.specs.declared.Refusal.{Refusal}
+use Rattle.model.specs.declared.Refusal.the-variants.{UnknownVcpu, NotActive, NotLeaving, ShortPage, NothingInFlight}
+use Rattle.model.specs.declared.Target.{Target}
+use Rattle.model.specs.declared.Vcpu.{Vcpu}
+use Rattle.model.specs.declared.Module.{Module}
+use Rattle.model.specs.State.{isActive, isLeaving, flies, bare, absent, size, vcpuAt, withVcpu, withRegistrations}
+use Rattle.model.specs.Codes.{Verdict, accept, refuse, need}
+use Rattle.model.specs.Doorbell.{longEnough}
+use Rattle.model.specs.Ipi.{hits, reached, reach, mapFrom, sent, icrItem, icrTarget}
+use Rattle.model.specs.Requests.{requestOf, callVerdict, forget}
+use Rattle.model.specs.Events.{Act, notice, call, entry, nonDelivery, handBack, Bytes, Event, pageOf, vcpuVerdict, verdict, Reply, gives, sends, Effect, effectOf, Out, refusal, deliver, store, concluded, decided, step, next}
+use Rattle.vector_set.proofs.Laws.{clash}
+use Rattle.model.proofs.Tests.{and-false}
+
+-- ---- a record after one was stored
+-- what is shown of the record j after the record i became v: at i itself, and at any other
+pub on-put : (m : Module) (i : ℕ) (v : Vcpu) (j : ℕ) → i < length (m .vcpus) → (P : ℕ → Bool → Vcpu → Vcpu → Type 0)
+    → P i true (vcpuAt m i) v → P j false (vcpuAt m j) (vcpuAt m j) → P j (eqb j i) (vcpuAt m j) (vcpuAt (withVcpu m i v) j)
+unfolding vcpuAt withVcpu
+on-put m i v j h P yes′ no′ = pick (eqb j i) refl
+  where
+    pick : (b : Bool) → eqb j i ≡ b → P j b (vcpuAt m j) (vcpuAt (withVcpu m i v) j)
+    pick true e = rw (eqb-true j i e, getD-set-same (m .vcpus) i v absent h) yes′
+    pick false e = rw (getD-set-other (m .vcpus) i j v absent (eqb-false j i e)) no′
+
+pub vcpuAt-count : (k : ℕ) (m : Module) (j : ℕ) → vcpuAt (withRegistrations k m) j ≡ vcpuAt m j
+unfolding vcpuAt withRegistrations
+vcpuAt-count k m j = refl
+
+pub size-put : (m : Module) (i : ℕ) (v : Vcpu) → size (withVcpu m i v) ≡ size m
+unfolding size withVcpu
+size-put m i v = refl
+
+pub size-count : (k : ℕ) (m : Module) → size (withRegistrations k m) ≡ size m
+unfolding size withRegistrations
+size-count k m = refl
+
+-- the same count stored changes nothing
+pub count-same : (m : Module) (i : ℕ) (v : Vcpu) → withRegistrations (m .registrations) (withVcpu m i v) ≡ withVcpu m i v
+unfolding withRegistrations withVcpu
+count-same m i v = refl
+
+-- ---- a record after an IPI
+mapFrom-at : (f : ℕ → Vcpu → Vcpu) → ((k : ℕ) → f k absent ≡ absent) → (k : ℕ) (l : List Vcpu) (j : ℕ)
+    → getD (mapFrom f k l) j absent ≡ f (k + j) (getD l j absent)
+unfolding mapFrom
+mapFrom-at f h k [] j = sym (h (k + j))
+mapFrom-at f h k (v ∷ l) zero = let e : k + 0 ≡ k = omega arith in rw e
+mapFrom-at f h k (v ∷ l) (suc j) = let e : k + suc j ≡ suc k + j = omega arith in rw e (mapFrom-at f h (suc k) l j)
+
+reach-absent : (y : Item) (t : Target) (i n k : ℕ) → reach y t i n k absent ≡ absent
+unfolding reach bare
+reach-absent y t i n k = rw (and-false (ltb k n && hits t i k))
+
+pub vcpuAt-sent : (y : Item) (t : Target) (i : ℕ) (m : Module) (j : ℕ) → vcpuAt (sent y t i m) j ≡ reach y t i (size m) j (vcpuAt m j)
+unfolding vcpuAt sent
+vcpuAt-sent y t i m j =
+    let e : 0 + j ≡ j = omega arith in
+    rw (mapFrom-at (reach y t i (size m)) (reach-absent y t i (size m)) 0 (m .vcpus) j, e)
+
+-- ---- the step, by the verdict
+-- what is shown of a refusal and of what an accepted event gives is shown of the step
+pub by-verdict : (m : Module) (e : Event) (P : Out → Type 0) → ((c : Refusal) → verdict m e ≡ refuse c → P (refusal c m (pageOf (e .act))))
+    → (verdict m e ≡ accept → P (concluded (effectOf m e) (e .vcpu) m)) → P (step m e)
+unfolding step
+by-verdict m e P no′ yes′ = pick (verdict m e) refl
+  where
+    pick : (g : Verdict) → verdict m e ≡ g → P (decided g m e)
+    pick accept h = yes′ h
+    pick (refuse c) h = no′ c h
+
+-- ---- what acceptance tells
+pub record Known (m : Module) (i : ℕ) (t : Phase → Bool) : Type 0 where
+  pub below : ltb i (size m) ≡ true
+  pub phase : t (vcpuAt m i .phase) ≡ true
+  pub there : i < length (m .vcpus)
+
+-- a record that is not there has left
+in-range : (m : Module) (i : ℕ) (t : Phase → Bool) → t Left ≡ false → t (vcpuAt m i .phase) ≡ true → i < length (m .vcpus)
+unfolding vcpuAt bare
+in-range m i t z h = pick (ltb i (length (m .vcpus))) refl
+  where
+    pick : (b : Bool) → ltb i (length (m .vcpus)) ≡ b → i < length (m .vcpus)
+    pick true e = ltb-true i (length (m .vcpus)) e
+    pick false e =
+        let d : getD (m .vcpus) i absent ≡ absent = List·getD-eq-default (m .vcpus) absent (ltb-false i (length (m .vcpus)) e) in
+        let f : t (absent .phase) ≡ true = subst (λ (v : Vcpu). t (v .phase) ≡ true) d h in
+        clash (cc)
+
+known : (m : Module) (i : ℕ) (t : Phase → Bool) → t Left ≡ false → (c : Refusal) (g : Verdict)
+    → need (ltb i (size m)) UnknownVcpu (need (t (vcpuAt m i .phase)) c g) ≡ accept → Known m i t
+known m i t z c g h = pick (ltb i (size m)) (t (vcpuAt m i .phase)) refl refl h
+  where
+    pick : (a b : Bool) → ltb i (size m) ≡ a → t (vcpuAt m i .phase) ≡ b → need a UnknownVcpu (need b c g) ≡ accept → Known m i t
+    pick true true p q e = record { below = p; phase = q; there = in-range m i t z q }
+    pick true false p q e = clash (cc)
+    pick false b p q e = clash (cc)
+
+-- the phase in which an act is served
+abbrev pub servedIn : Act Bytes → Phase → Bool
+servedIn (notice p) = isActive
+servedIn (call op c x) = isActive
+servedIn (entry iF sh bl) = isActive
+servedIn nonDelivery = isActive
+servedIn (handBack p iF sh) = isLeaving
+
+pub known-of : (m : Module) (i : ℕ) (a : Act Bytes) → verdict m (record { vcpu = i; act = a }) ≡ accept → Known m i (servedIn a)
+unfolding verdict vcpuVerdict
+known-of m i (notice p) h = known m i isActive refl NotActive _ h
+known-of m i (call op c x) h = known m i isActive refl NotActive _ h
+known-of m i (entry iF sh bl) h = known m i isActive refl NotActive accept h
+known-of m i nonDelivery h = known m i isActive refl NotActive _ h
+known-of m i (handBack p iF sh) h = known m i isLeaving refl NotLeaving _ h

@@ -1,0 +1,62 @@
+-- Demand 3: isolation and the bound on presentations, one claim over whole lists of events (13.19 to 13.29).
+-- Assumes nothing.
+use mathlib.Core.Path.{_≡_}
+use mathlib.Core.Bool.{true}
+use mathlib.Core.List.{List, map}
+use Prim.Native.Nat.{ℕ, _+_, _≤_}
+use Rattle.model.specs.declared.Item.{Item}
+use Rattle.model.specs.declared.Item.the-variants as item
+use Rattle.model.specs.declared.Module.{Module}
+use Rattle.model.specs.State.{vcpuAt, start}
+use Rattle.model.specs.Codes.{Result, done, answers, refused}
+use Rattle.model.specs.Items.{InRange, memberOf, pending}
+use Rattle.model.specs.Doorbell.{Part, inPart, noPart, items}
+use Rattle.model.specs.Events.{notice, at, Bytes, Event, step, final}
+use Rattle.model.specs.Book.{Book, recordAt, note, bookOf, feedAll, partBy, parts}
+use Rattle.model.specs.Lists.{results, pages, struck, AllAlike}
+use Rattle.model.specs.Ledger.{Ledger, ledgerOf}
+use Rattle.vector_set.specs.Bits.{one}
+use Rattle.vector_set.specs.Sets.{has}
+
+-- the book after the list es, from the module m
+abbrev pub bookAfter : Module → List Event → Book
+bookAfter m es = feedAll (bookOf m) (map note es)
+
+-- the result of a notice and what it admits: an accepted one gives the number of its items, a refused one admits nothing
+abbrev pub Exact : Result → Part → Type 0
+Exact (done x) s = x ≡ items s
+Exact (answers a) s = ⊥
+Exact (refused c) s = s ≡ noPart
+
+-- at least 31
+abbrev pub IsVector : Item → Type 0
+IsVector item.Nmi = Unit {0}
+IsVector (item.Vector v) = 31 ≤ v
+
+-- ---- of lists played on any module value m
+pub record Isolated (m : Module) : Type 0 where
+  -- two lists equal but for bytes in the pages of notices that admit the same run the same
+  pub same : (ds es : List Event) → AllAlike ds es → parts (m .vmpl) (bookOf m) ds ≡ parts (m .vmpl) (bookOf m) es
+      → (results m ds ≡ results m es) × (pages m ds ≡ pages m es) × (final m ds ≡ final m es)
+  -- the book has the final module's n, count, phases and allowed sets
+  pub book : (es : List Event) → bookAfter m es ≡ bookOf (final m es)
+  -- and it has them with the notices struck out
+  pub unread : (es : List Event) → bookAfter m (struck es) ≡ bookAfter m es
+  -- what an event admits by the book is allowed by the book on its vCPU, and is the NMI or a vector 31 to 255
+  pub allowed : (es : List Event) (e : Event) (x : Item) → InRange x → inPart x (partBy (m .vmpl) (bookAfter m es) e) ≡ true
+      → (has (recordAt (bookAfter m es) (e .vcpu) .allowed) (memberOf x) ≡ true) × IsVector x
+  -- the book's admitted part is the machine's, no more and no less
+  pub exact : (es : List Event) (i : ℕ) (p : Bytes)
+      → Exact (step (final m es) (at i (notice p)) .result) (partBy (m .vmpl) (bookAfter m es) (at i (notice p)))
+  -- nothing is presented on a vCPU more often than it was pending there at first, admitted, sent and returned, counted together
+  pub most : (es : List Event) (j : ℕ) (x : Item) → InRange x
+      → ledgerOf m j x es .presented
+      ≤ one (pending x (vcpuAt m j)) + ledgerOf m j x es .admitted + ledgerOf m j x es .sent + ledgerOf m j x es .returned
+
+-- ---- the demand: lists played on what start gives, refused or not
+pub record Demand3 (n l : ℕ) : Type 0 where
+  pub isolated : Isolated (start n l)
+  -- nothing is pending there at first
+  pub most : (es : List Event) (j : ℕ) (x : Item) → InRange x
+      → ledgerOf (start n l) j x es .presented
+      ≤ ledgerOf (start n l) j x es .admitted + ledgerOf (start n l) j x es .sent + ledgerOf (start n l) j x es .returned

@@ -1,0 +1,76 @@
+-- Items: the NMI and the vectors. What is pending at a record is asked and changed by item (section 2).
+-- Assumes nothing.
+use mathlib.Core.Bool.{Bool, true, false, _||_}
+use mathlib.Core.List.{List}
+use mathlib.Core.Option.{Option, none, some}
+use Prim.Native.Nat.{ℕ, _<_}
+use lib.Dec.{eqb}
+use Rattle.model.specs.declared.InFlight.{InFlight}
+use Rattle.model.specs.declared.InFlight.the-variants as flight
+use Rattle.model.specs.declared.Item.{Item}
+use Rattle.model.specs.declared.Item.the-variants.{Nmi, Vector}
+use Rattle.model.specs.declared.Vcpu.{Vcpu}
+use Rattle.model.specs.State.{withIrr, withNmi}
+use Rattle.vector_set.specs.Sets.{has, collect, empty, insert, remove}
+
+abbrev pub InRange : Item → Type 0
+InRange Nmi = Unit {0}
+InRange (Vector v) = v < 256
+
+abbrev pub isNmi : Item → Bool
+isNmi Nmi = true
+isNmi (Vector v) = false
+
+abbrev pub isThe : ℕ → Item → Bool
+isThe y Nmi = false
+isThe y (Vector v) = eqb v y
+
+abbrev pub sameItem : Item → Item → Bool
+sameItem x Nmi = isNmi x
+sameItem x (Vector y) = isThe y x
+
+-- x is the item that there may be
+abbrev pub isItem : Item → Option Item → Bool
+isItem x none = false
+isItem x (some y) = sameItem x y
+
+-- the member of an allowed set that stands for an item
+abbrev pub memberOf : Item → ℕ
+memberOf Nmi = 2
+memberOf (Vector v) = v
+
+-- ---- in flight
+abbrev pub flying : InFlight → Option Item
+flying flight.Nothing = none
+flying flight.Nmi = some Nmi
+flying (flight.Vector v) = some (Vector v)
+
+abbrev pub flightOf : Item → InFlight
+flightOf Nmi = flight.Nmi
+flightOf (Vector v) = flight.Vector v
+
+-- ---- pending: the NMI by its mark, a vector by the IRR
+abbrev pub pendingIn : Item → Bool → List ℕ → Bool
+pendingIn Nmi nmi irr = nmi
+pendingIn (Vector v) nmi irr = has irr v
+
+abbrev pub pending : Item → Vcpu → Bool
+pending x v = pendingIn x (v .nmi) (v .irr)
+
+-- the item becomes pending, as edge
+unfoldable pub mark : Item → Vcpu → Vcpu
+mark Nmi v = withNmi true v
+mark (Vector x) v = withIrr (insert x (v .irr)) v
+
+-- it is pending no more
+unfoldable pub unmark : Item → Vcpu → Vcpu
+unmark Nmi v = withNmi false v
+unmark (Vector x) v = withIrr (remove x (v .irr)) v
+
+-- every item of f becomes pending
+unfoldable pub markAll : (Item → Bool) → Vcpu → Vcpu
+markAll f v = withNmi (v .nmi || f Nmi) (withIrr (collect (λ x. has (v .irr) x || f (Vector x))) v)
+
+-- nothing is pending any more
+unfoldable pub unmarkAll : Vcpu → Vcpu
+unmarkAll v = withNmi false (withIrr empty v)

@@ -1,0 +1,82 @@
+-- The ledger: how often an item was presented, admitted, sent and returned on a vCPU, folded once over a list with its results (section 12).
+-- It is read from the events, the results and the book.
+-- Assumes nothing.
+use mathlib.Core.Bool.{Bool, true, false, cond, _&&_, _||_}
+use mathlib.Core.List.{List, [], _∷_}
+use mathlib.Core.Option.{Option, none, some}
+use Prim.Native.Nat.{ℕ, _+_}
+use lib.Dec.{ltb, eqb}
+use Rattle.model.specs.declared.Item.{Item}
+use Rattle.model.specs.declared.Item.the-variants as item
+use Rattle.model.specs.declared.Target.{Target}
+use Rattle.model.specs.declared.Target.the-variants.{Caller}
+use Rattle.model.specs.declared.Module.{Module}
+use Rattle.model.specs.State.{isActive, vcpuAt}
+use Rattle.model.specs.Codes.{Result, accepted, presentedBy}
+use Rattle.model.specs.Items.{sameItem, isItem, flying}
+use Rattle.model.specs.Doorbell.{Part, inPart}
+use Rattle.model.specs.Ipi.{icrItem, icrTarget, hits}
+use Rattle.model.specs.Events.{Act, notice, call, entry, nonDelivery, handBack, Bytes, Event}
+use Rattle.model.specs.Book.{Book, bookOf, recordAt, feed, note, partBy}
+use Rattle.model.specs.Lists.{results}
+
+-- the tallies of one item on one vCPU, and what the latest accepted entry there presented
+pub record Ledger : Type 0 where
+  pub presented : ℕ
+  pub admitted : ℕ
+  pub sent : ℕ
+  pub returned : ℕ
+  pub latest : Option Item
+
+-- one more, if so
+abbrev pub tally : Bool → ℕ → ℕ
+tally true n = n + 1
+tally false n = n
+
+abbrev pub addPresented : Bool → Ledger → Ledger
+addPresented b g = record { presented = tally b (g .presented); admitted = g .admitted; sent = g .sent; returned = g .returned; latest = g .latest }
+
+abbrev pub addAdmitted : Bool → Ledger → Ledger
+addAdmitted b g = record { presented = g .presented; admitted = tally b (g .admitted); sent = g .sent; returned = g .returned; latest = g .latest }
+
+abbrev pub addSent : Bool → Ledger → Ledger
+addSent b g = record { presented = g .presented; admitted = g .admitted; sent = tally b (g .sent); returned = g .returned; latest = g .latest }
+
+abbrev pub addReturned : Bool → Ledger → Ledger
+addReturned b g = record { presented = g .presented; admitted = g .admitted; sent = g .sent; returned = tally b (g .returned); latest = g .latest }
+
+abbrev pub withLatest : Option Item → Ledger → Ledger
+withLatest o g = record { presented = g .presented; admitted = g .admitted; sent = g .sent; returned = g .returned; latest = o }
+
+-- an IPI of the item y that i sends to the target t is one of x for j, a target active in the book
+abbrev pub reaches : ℕ → Item → Book → ℕ → Item → Target → Bool
+reaches j x w i y t = sameItem x y && (ltb j (w .n) && hits t i j && isActive (recordAt w j .phase))
+
+-- the register c written with the value y: ICR or self-IPI
+unfoldable pub writeSends : ℕ → Item → Book → ℕ → ℕ → ℕ → Bool
+writeSends j x w i c y =
+    (eqb c 0x830 && reaches j x w i (icrItem y) (icrTarget y)) || (eqb c 0x83F && reaches j x w i (item.Vector y) Caller)
+
+-- what an act on the vCPU i posts for x on j, with its admitted part and its result
+unfoldable pub postAct : ℕ → Item → Part → Book → ℕ → Act Bytes → Result → Ledger → Ledger
+postAct j x s w i (notice p) a g = addAdmitted (inPart x s && eqb j i) g
+postAct j x s w i (call op c y) a g = addSent (accepted a && (eqb op 3 && writeSends j x w i c y)) g
+postAct j x s w i (entry iF sh bl) a g =
+    withLatest (cond (accepted a && eqb j i) (presentedBy a) (g .latest)) (addPresented (isItem x (presentedBy a) && eqb j i) g)
+postAct j x s w i nonDelivery a g = addReturned (accepted a && isItem x (g .latest) && eqb j i) g
+postAct j x s w i (handBack p iF sh) a g = g
+
+-- folded over a list with its results, at the VMPL l, under the book that the events before left
+unfoldable pub ledger : ℕ → Item → ℕ → Book → List Event → List Result → Ledger → Ledger
+ledger j x l w [] rs g = g
+ledger j x l w (e ∷ es) [] g = g
+ledger j x l w (e ∷ es) (a ∷ rs) g =
+    ledger j x l (feed w (note e)) es rs (postAct j x (partBy l w e) w (e .vcpu) (e .act) a g)
+
+-- before any event: what an entry before the list presented is in flight, or nothing is
+abbrev pub opened : Option Item → Ledger
+opened o = record { presented = 0; admitted = 0; sent = 0; returned = 0; latest = o }
+
+-- of the list es played on the module m
+abbrev pub ledgerOf : Module → ℕ → Item → List Event → Ledger
+ledgerOf m j x es = ledger j x (m .vmpl) (bookOf m) es (results m es) (opened (flying (vcpuAt m j .flight)))

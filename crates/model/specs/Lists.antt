@@ -1,0 +1,43 @@
+-- Lists of events: what they give, notices struck out, and lists that differ in bytes of notices alone (section 12).
+-- Assumes nothing.
+use mathlib.Core.Path.{_≡_}
+use mathlib.Core.Bool.{Bool, true, false, cond}
+use mathlib.Core.List.{List, [], _∷_, map}
+use mathlib.Core.Option.{Option, none, some}
+use Prim.Native.Nat.{ℕ}
+use lib.ListN.{length}
+use Rattle.model.specs.declared.Module.{Module}
+use Rattle.model.specs.Codes.{Result}
+use Rattle.model.specs.Events.{notice, at, Bytes, Event, Out, run}
+use Rattle.model.specs.Causes.{isHandBack}
+use Rattle.model.specs.Book.{noticePage}
+
+unfoldable pub results : Module → List Event → List Result
+results m es = map (λ o. o .result) (run m es)
+
+-- the pages after the hand-backs
+unfoldable pub handBackPages : List Event → List Out → List Bytes
+handBackPages [] os = []
+handBackPages (e ∷ es) [] = []
+handBackPages (e ∷ es) (o ∷ os) = cond (isHandBack (e .act)) (o .page ∷ handBackPages es os) (handBackPages es os)
+
+unfoldable pub pages : Module → List Event → List Bytes
+pages m es = handBackPages es (run m es)
+
+-- a list without its notices
+abbrev pub keepUnless : {A P : Type 0} → Option P → A → List A → List A
+keepUnless none e es = e ∷ es
+keepUnless (some p) e es = es
+
+unfoldable pub struck : List Event → List Event
+struck [] = []
+struck (e ∷ es) = keepUnless (noticePage (e .act)) e (struck es)
+
+-- events, and lists, that are equal but for bytes in the pages of notices, page lengths alike
+pub data Alike : Event → Event → Type 0 where
+  same : {e : Event} → Alike e e
+  notices : {i : ℕ} {p q : Bytes} → length p ≡ length q → Alike (at i (notice p)) (at i (notice q))
+
+pub data AllAlike : List Event → List Event → Type 0 where
+  neither : AllAlike [] []
+  both : {d e : Event} {ds es : List Event} → Alike d e → AllAlike ds es → AllAlike (d ∷ ds) (e ∷ es)

@@ -1,0 +1,4 @@
+pub mod BitLaws
+pub mod WordLaws
+pub mod Laws
+pub mod Cases

@@ -164,7 +164,6 @@ offer-pending iF sh bl v = pick (v .nmi) (not (sh || bl)) refl
     pick true false e x h = high (highest (v .irr)) refl x h
     pick false b e x h = high (highest (v .irr)) refl x h
 
-
 -- ---- what is in flight is what the latest accepted entry presented
 abbrev pub Follows : Option Item → Option Item → Type 0
 Follows none l = Unit {0}

@@ -27,19 +27,21 @@ use Rattle.model.proofs.Allowed.{part-fits}
 use Rattle.model.proofs.Bound.{bounded}
 use Rattle.model.proofs.Reached.{everywhere-start}
 
--- ---- an accepted notice gives the number of its items by the book, a refused one admits nothing
-exact-at : (m : Module) (i : ℕ) (p : Bytes) → Exact (step m (at i (notice p)) .result) (partBy (m .vmpl) (bookOf m) (at i (notice p)))
+-- ---- an accepted notice admits by the book what it admits by the record, and gives the number of its items; a refused one admits nothing
+exact-at : (m : Module) (i : ℕ) (p : Bytes)
+    → Exact (step m (at i (notice p)) .result) (partBy (m .vmpl) (bookOf m) (at i (notice p))) (admitted (m .vmpl) (vcpuAt m i .allowed) p)
 unfolding concluded effect
 exact-at m i p =
-    by-verdict m (at i (notice p)) (λ o. Exact (o .result) (partBy (m .vmpl) (bookOf m) (at i (notice p))))
-    (λ c h. part-refused m i p c h) (λ h. rw (part-accepted m i p h))
+    by-verdict m (at i (notice p)) (λ o. Exact (o .result) (partBy (m .vmpl) (bookOf m) (at i (notice p))) (admitted (m .vmpl) (vcpuAt m i .allowed) p))
+    (λ c h. part-refused m i p c h) (λ h. (rw (part-accepted m i p h), part-accepted m i p h))
 
 exact-after : (m : Module) (es : List Event) (i : ℕ) (p : Bytes)
-    → Exact (step (final m es) (at i (notice p)) .result) (partBy (m .vmpl) (bookAfter m es) (at i (notice p)))
+    → Exact (step (final m es) (at i (notice p)) .result) (partBy (m .vmpl) (bookAfter m es) (at i (notice p))) (admitted (m .vmpl) (vcpuAt (final m es) i .allowed) p)
 exact-after m es i p =
     rw (follow-all es m)
-    (subst (λ (k : ℕ). Exact (step (final m es) (at i (notice p)) .result) (partBy k (bookOf (final m es)) (at i (notice p)))) (vmpl-final es m)
-    (exact-at (final m es) i p))
+    (subst
+    (λ (k : ℕ). Exact (step (final m es) (at i (notice p)) .result) (partBy k (bookOf (final m es)) (at i (notice p))) (admitted k (vcpuAt (final m es) i .allowed) p))
+    (vmpl-final es m) (exact-at (final m es) i p))
 
 -- ---- from any module value
 pub isolated : (m : Module) → Isolated m

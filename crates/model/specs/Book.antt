@@ -28,6 +28,7 @@ mapPage f (handBack p iF sh) = handBack (f p) iF sh
 abbrev pub Note : Type 0
 Note = On ℕ
 
+-- an event as the book sees it (12.9)
 abbrev pub note : Event → Note
 note e = at (e .vcpu) (mapPage length (e .act))
 
@@ -36,6 +37,7 @@ pub record BookRecord : Type 0 where
   pub phase : Phase
   pub allowed : List ℕ
 
+-- the book: n, the registration count, and for each vCPU what is kept of it (12.6, 12.7)
 pub record Book : Type 0 where
   pub n : ℕ
   pub count : ℕ
@@ -44,7 +46,7 @@ pub record Book : Type 0 where
 abbrev pub recordOf : Vcpu → BookRecord
 recordOf v = record { phase = v .phase; allowed = v .allowed }
 
--- at first as in a module, whose n is that with which it is answered
+-- at first as in a module, whose n is that with which it is answered (12.8)
 unfoldable pub bookOf : Module → Book
 bookOf m = record { n = size m; count = m .registrations; records = map recordOf (m .vcpus) }
 
@@ -65,24 +67,26 @@ abbrev pub withAllowed : List ℕ → BookRecord → BookRecord
 withAllowed s r = record { phase = r .phase; allowed = s }
 
 -- ---- how an event changes it
+-- at the count 0 the vCPU i becomes leaving (12.12)
 unfoldable pub leavesAtZero : ℕ → Book → Book
 leavesAtZero i w = cond (eqb (w .count) 0) (withRecord i (withPhase Leaving (recordAt w i)) w) w
 
--- k - 1 is 0 at 0
+-- k - 1 is 0 at 0 (12.13)
 unfoldable pub takesOne : Book → Book
 takesOne w = withCount (w .count - 1) w
 
+-- registering, at a count of 1 to 254 (12.14)
 unfoldable pub addsOne : Book → Book
 addsOne w = cond (leb 1 (w .count) && leb (w .count) 254) (withCount (w .count + 1) w) w
 
--- call 1, by ECX
+-- call 1, by ECX (12.12 to 12.14)
 unfoldable pub registers : ℕ → ℕ → Book → Book
 registers i c w =
     cond (eqb c 0) (leavesAtZero i w)
     (cond (eqb c 1) (leavesAtZero i (takesOne w))
     (cond (eqb c 2) (addsOne w) w))
 
--- call 4, by ECX
+-- call 4, by ECX (12.15)
 unfoldable pub permits : ℕ → ℕ → Book → Book
 permits i c w =
     cond (nameable c)
@@ -91,14 +95,15 @@ permits i c w =
     (withRecord i (withAllowed (remove (c % 256) (recordAt w i .allowed)) (recordAt w i)) w))
     w
 
--- a call on an active vCPU i below n, by its number and ECX
+-- a call on an active vCPU i below n, by its number and ECX (12.11)
 unfoldable pub called : ℕ → ℕ → ℕ → Book → Book
 called i op c w = cond (eqb op 1) (registers i c w) (cond (eqb op 4) (permits i c w) w)
 
--- a hand-back on a leaving vCPU i below n
+-- a hand-back on a leaving vCPU i below n (12.16)
 unfoldable pub leaves : ℕ → Book → Book
 leaves i w = withRecord i (record { phase = Left; allowed = empty }) w
 
+-- an act on the vCPU i: two calls and the hand-back change the book, nothing else does (12.10, 12.11, 12.17)
 unfoldable pub feedAct : ℕ → Act ℕ → Book → Book
 feedAct i (notice len) w = w
 feedAct i (call op c x) w = cond (ltb i (w .n) && isActive (recordAt w i .phase)) (called i op c w) w
@@ -123,7 +128,7 @@ noticePage (entry iF sh bl) = none
 noticePage nonDelivery = none
 noticePage (handBack p iF sh) = none
 
--- by a notice on the vCPU i with the page that there may be
+-- by a notice on the vCPU i with the page that there may be (12.18 to 12.20)
 unfoldable pub partOn : ℕ → Book → ℕ → Option Bytes → Part
 partOn l w i none = noPart
 partOn l w i (some p) =
@@ -133,7 +138,7 @@ abbrev pub partBy : ℕ → Book → Event → Part
 partBy l w e = partOn l w (e .vcpu) (noticePage (e .act))
 
 -- for each event of a list what it admits, under the book that the events before it left. Two parts are equal exactly when the NMI,
--- the level-sensitive vector or its absence, and the edge set are: a set is its eight words (`set-ext`)
+-- the level-sensitive vector or its absence, and the edge set are: a set is its eight words (`set-ext`) (13.21)
 unfoldable pub parts : ℕ → Book → List Event → List Part
 parts l w [] = []
 parts l w (e ∷ es) = partBy l w e ∷ parts l (feed w (note e)) es

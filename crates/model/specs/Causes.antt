@@ -68,10 +68,11 @@ isKindWrite kind.Read = false
 isKindWrite kind.Write = true
 isKindWrite kind.Both = false
 
+-- the register c is in the table (6.1)
 unfoldable pub inTable : ℕ → Bool
 inTable c = within 0x800 0x8FF c
 
--- the value x is not one that the register c takes
+-- the value x is not one that the register c takes (6.21 to 6.24, 7.11)
 unfoldable pub badValue : ℕ → ℕ → Bool
 badValue c x =
     (eqb c 0x80B && not (eqb x 0))
@@ -79,13 +80,14 @@ badValue c x =
     || (eqb c 0x808 && ltb 255 x)
     || (eqb c 0x830 && not (icrLegal x))
 
+-- the ECX of call 1 or 4 is not one that it takes (5.7, 5.17)
 unfoldable pub badEcx : ℕ → ℕ → Bool
 badEcx op c = (eqb op 1 && ltb 2 c) || (eqb op 4 && not (nameable c))
 
 abbrev pub registering : ℕ → ℕ → Bool
 registering op c = eqb op 1 && eqb c 2
 
--- the causes of a call's numbers at the count k: call, register, kind, value or ECX, count
+-- the causes of a call's numbers at the count k: call, register, kind, value or ECX, count (11.7 to 11.11)
 unfoldable pub callCauses : ℕ → ℕ → ℕ → ℕ → List Cause
 callCauses k op c x =
     -- no such call
@@ -112,6 +114,7 @@ numberCauses k nonDelivery = []
 numberCauses k (handBack p iF sh) = []
 
 -- ---- all of them, in order
+-- of an event on a module value (11.1 to 11.4, 11.6, 11.12)
 unfoldable pub causes : Module → Event → List Cause
 causes m e =
     cause 1 (not (ltb (e .vcpu) (size m)))
@@ -121,6 +124,6 @@ causes m e =
     ∷ cause 4 (isNonDelivery (e .act) && not (flies (vcpuAt m (e .vcpu) .flight)))
     ∷ numberCauses (m .registrations) (e .act)
 
--- of start
+-- of start (11.5)
 unfoldable pub startCauses : ℕ → ℕ → List Cause
 startCauses n l = cause 5 (not (within 1 32 n && within 1 3 l)) ∷ []

@@ -12,7 +12,7 @@ use Rattle.model.specs.declared.Outcome.the-variants as outcome
 use Rattle.model.specs.declared.Presentation.{Presentation}
 use Rattle.model.specs.declared.Presentation.the-variants as presentation
 
--- the table of codes
+-- the table of codes (11.1 to 11.11)
 abbrev pub codeOf : Refusal → ℕ
 codeOf UnknownVcpu = 1
 codeOf ShortPage = 2
@@ -27,31 +27,35 @@ codeOf RegistrationsFull = 0x80000007
 codeOf NotRegistered = 0x80001000
 
 -- ---- whether an event is accepted: the first test that fails refuses
+-- accepted, or refused for a cause (1.19)
 pub data Verdict : Type 0 where
   accept : Verdict
   refuse : Refusal → Verdict
 
+-- where the test fails the cause refuses; else the rest decides (11.12)
 abbrev pub need : Bool → Refusal → Verdict → Verdict
 need true c g = g
 need false c g = refuse c
 
 -- ---- what an event gives
--- an entry's answer
+-- an entry's answer (8.4)
 pub data Answer : Type 0 where
   nothing : Answer
   presents : Item → Answer
   window : ℕ → Answer
 
--- accepted with its number, an entry's answer, or refused with its code: a refusal is told from an accepted result of the same number
+-- accepted with its number, an entry's answer, or refused with its code: a refusal is told from an accepted result of the same number (1.19, 11.20)
 pub data Result : Type 0 where
   done : ℕ → Result
   answers : Answer → Result
   refused : ℕ → Result
 
+-- what an outcome says (13.9)
 abbrev pub resultOf : Outcome → Result
 resultOf (outcome.Done x) = done x
 resultOf (outcome.Refused c) = refused (codeOf c)
 
+-- what an entry's presentation says (8.5)
 abbrev pub presentedResult : Presentation → Result
 presentedResult presentation.Nothing = answers nothing
 presentedResult presentation.Nmi = answers (presents item.Nmi)
@@ -60,6 +64,7 @@ presentedResult (presentation.Window v) = answers (window v)
 presentedResult (presentation.Refused c) = refused (codeOf c)
 
 -- ---- what a result says
+-- the event was accepted (12.23)
 abbrev pub accepted : Result → Bool
 accepted (done x) = true
 accepted (answers a) = true
@@ -77,6 +82,7 @@ presentedIn nothing = none
 presentedIn (presents y) = some y
 presentedIn (window v) = none
 
+-- the item that an event presented (12.23)
 abbrev pub presentedBy : Result → Option Item
 presentedBy (done x) = none
 presentedBy (answers a) = presentedIn a

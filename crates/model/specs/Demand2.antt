@@ -17,15 +17,15 @@ use Rattle.model.specs.Reached.{Sound}
 use Rattle.vector_set.specs.Sets.{has, full, difference, highest}
 
 -- ---- the read-back
--- a page with work announced at the VMPL l
+-- a page with work announced at the VMPL l (13.10)
 unfoldable pub announce : ℕ → Bytes → Bytes
 announce l p = mapBits (λ k b. b || eqb k (announcingBit l)) p
 
--- the NMI, the highest level-sensitive vector and the edge set that are pending at a record
+-- the NMI, the highest level-sensitive vector and the edge set that are pending at a record (13.11)
 unfoldable pub pendingPart : Vcpu → Part
 pendingPart v = record { nmi = v .nmi; level = highest (v .«irr_level»); edge = difference (v .irr) (v .«irr_level») }
 
--- after the hand-back of the vCPU i on the module m, if it is accepted, the notice rule reads in the page what was pending before it
+-- after the hand-back of the vCPU i on the module m, if it is accepted, the notice rule reads in the page what was pending before it (13.10 to 13.12)
 abbrev pub ReadsBack : Module → ℕ → Bytes → Bool → Bool → Type 0
 ReadsBack m i p iF sh =
     (r : ℕ) → step m (at i (handBack p iF sh)) .result ≡ done r

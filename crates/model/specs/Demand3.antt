@@ -10,7 +10,7 @@ use Rattle.model.specs.declared.Module.{Module}
 use Rattle.model.specs.State.{vcpuAt, start}
 use Rattle.model.specs.Codes.{Result, done, answers, refused}
 use Rattle.model.specs.Items.{InRange, memberOf, pending}
-use Rattle.model.specs.Doorbell.{Part, inPart, noPart, items}
+use Rattle.model.specs.Doorbell.{Part, inPart, noPart, admitted, items}
 use Rattle.model.specs.Events.{notice, at, Bytes, Event, step, final}
 use Rattle.model.specs.Book.{Book, recordAt, note, bookOf, feedAll, partBy, parts}
 use Rattle.model.specs.Lists.{results, pages, struck, AllAlike}
@@ -22,11 +22,12 @@ use Rattle.vector_set.specs.Sets.{has}
 abbrev pub bookAfter : Module → List Event → Book
 bookAfter m es = feedAll (bookOf m) (map note es)
 
--- the result of a notice and what it admits: an accepted one gives the number of its items, a refused one admits nothing
-abbrev pub Exact : Result → Part → Type 0
-Exact (done x) s = x ≡ items s
-Exact (answers a) s = ⊥
-Exact (refused c) s = s ≡ noPart
+-- the result of a notice, what it admits by the book, s, and by the record, t: an accepted one admits the same and gives its number of items,
+-- a refused one admits nothing (13.24, 13.25)
+abbrev pub Exact : Result → Part → Part → Type 0
+Exact (done x) s t = (x ≡ items s) × (s ≡ t)
+Exact (answers a) s t = ⊥
+Exact (refused c) s t = s ≡ noPart
 
 -- at least 31
 abbrev pub IsVector : Item → Type 0
@@ -48,6 +49,7 @@ pub record Isolated (m : Module) : Type 0 where
   -- the book's admitted part is the machine's, no more and no less
   pub exact : (es : List Event) (i : ℕ) (p : Bytes)
       → Exact (step (final m es) (at i (notice p)) .result) (partBy (m .vmpl) (bookAfter m es) (at i (notice p)))
+      (admitted (m .vmpl) (vcpuAt (final m es) i .allowed) p)
   -- nothing is presented on a vCPU more often than it was pending there at first, admitted, sent and returned, counted together
   pub most : (es : List Event) (j : ℕ) (x : Item) → InRange x
       → ledgerOf m j x es .presented

@@ -13,7 +13,7 @@ use Rattle.vector_set.specs.Bits.{one, bitAt, bits}
 use Rattle.vector_set.specs.Sets.{has, collect, empty, full, difference, highest, count, isEmpty, vectorOf}
 
 -- ---- bytes by their bits
--- bit k of bytes: bit k mod 8 of byte k div 8
+-- bit k of bytes: bit k mod 8 of byte k div 8 (4.8)
 unfoldable pub bitOf : List ℕ → ℕ → Bool
 bitOf p k = bitAt (getD p (k / 8) 0) (k % 8)
 
@@ -27,47 +27,54 @@ unfoldable pub mapBits : (ℕ → Bool → Bool) → List ℕ → List ℕ
 mapBits f p = bytesFrom (λ k. f k (bitOf p k)) 0 (length p)
 
 -- ---- the doorbell page
+-- the page has 256 bytes or more (4.2)
 abbrev pub longEnough : List ℕ → Bool
 longEnough p = leb 256 (length p)
 
--- bit 7 + L of the 16-bit word at byte 2, as a bit of the page
+-- bit 7 + L of the 16-bit word at byte 2, as a bit of the page (4.4, 4.5)
 abbrev pub announcingBit : ℕ → ℕ
 announcingBit l = 8 * 2 + (7 + l)
 
+-- the page announces work at the VMPL l (4.5)
 unfoldable pub announces : ℕ → List ℕ → Bool
 announces l p = bitOf p (announcingBit l)
 
--- the byte at which the descriptor of the VMPL l begins
+-- the byte at which the descriptor of the VMPL l begins (4.7)
 abbrev pub descriptorAt : ℕ → ℕ
 descriptorAt l = 64 * l
 
+-- the 32 bytes of the descriptor (4.7)
 unfoldable pub descriptor : ℕ → List ℕ → List ℕ
 descriptor l p = take 32 (drop (descriptorAt l) p)
 
--- bits 7:0 of its word 0
+-- bits 7:0 of its word 0 (4.9)
 abbrev pub vectorField : List ℕ → ℕ
 vectorField d = getD d 0 0
 
+-- the bit for the NMI (4.10)
 abbrev pub nmiBit : ℕ
 nmiBit = 8
 
+-- the bit that makes the single vector level-sensitive (4.12)
 abbrev pub levelBit : ℕ
 levelBit = 10
 
+-- the bit that makes the marks count (4.13)
 abbrev pub manyBit : ℕ
 manyBit = 14
 
--- a vector that a notice, an IPI or the page may name
+-- a vector that a notice, an IPI or the page may name (4.13)
 abbrev pub isVector : ℕ → Bool
 isVector v = leb 31 v && leb v 255
 
 -- ---- what a notice admits
--- the admitted part (a term of document 01): nothing else of a page reaches the record
+-- the admitted part (a term of document 01): nothing else of a page reaches the record (4.14)
 pub record Part : Type 0 where
   pub nmi : Bool
   pub level : Option ℕ
   pub edge : List ℕ
 
+-- nothing is admitted (4.20)
 unfoldable pub noPart : Part
 noPart = record { nmi = false; level = none; edge = empty }
 
@@ -84,24 +91,26 @@ abbrev pub inPart : Item → Part → Bool
 inPart item.Nmi a = a .nmi
 inPart (item.Vector v) a = has (a .edge) v || isLevel (a .level) v
 
+-- the NMI is admitted (4.16)
 unfoldable pub admitsNmi : List ℕ → List ℕ → Bool
 admitsNmi a d = bitOf d nmiBit && has a 2
 
+-- the single vector, admitted as level-sensitive (4.17, 4.22, 4.23)
 unfoldable pub admitsLevel : List ℕ → List ℕ → Option ℕ
 admitsLevel a d =
     cond (bitOf d levelBit && isVector (vectorField d) && has a (vectorField d)) (some (vectorField d)) none
 
--- with bit 14 every marked vector but the level-sensitive one; with bits 10 and 14 clear the one in bits 7:0
+-- with bit 14 every marked vector but the level-sensitive one; with bits 10 and 14 clear the one in bits 7:0 (4.18, 4.19, 4.21 to 4.24)
 unfoldable pub admitsEdge : List ℕ → List ℕ → ℕ → Bool
 admitsEdge a d v =
     isVector v && has a v
     && cond (bitOf d manyBit) (bitOf d v && not (isLevel (admitsLevel a d) v)) (not (bitOf d levelBit) && eqb v (vectorField d))
 
--- the admitted part of a descriptor under the set A
+-- the admitted part of a descriptor under the set A (4.15)
 unfoldable pub admits : List ℕ → List ℕ → Part
 admits a d = record { nmi = admitsNmi a d; level = admitsLevel a d; edge = collect (admitsEdge a d) }
 
--- the admitted part of an accepted notice's page under the set A
+-- the admitted part of an accepted notice's page under the set A (4.6, 4.20)
 unfoldable pub admitted : ℕ → List ℕ → List ℕ → Part
 admitted l a p = cond (announces l p) (admits a (descriptor l p)) noPart
 
@@ -109,12 +118,12 @@ abbrev pub isSome : Option ℕ → Bool
 isSome none = false
 isSome (some v) = true
 
--- the number of admitted items
+-- the number of admitted items (4.29, 4.30)
 unfoldable pub items : Part → ℕ
 items a = one (a .nmi) + one (isSome (a .level)) + count (a .edge)
 
 -- ---- the page after a notice
--- k is a bit of the descriptor that is cleared, given its bit 14
+-- k is a bit of the descriptor that is cleared, given its bit 14 (4.31, 4.32, 4.34, 4.35)
 unfoldable pub clearsBit : Bool → ℕ → Bool
 clearsBit many k = leb k 10 || eqb k manyBit || (many && leb 31 k)
 
@@ -122,18 +131,19 @@ clearsBit many k = leb k 10 || eqb k manyBit || (many && leb 31 k)
 abbrev pub descriptorBit : ℕ → ℕ
 descriptorBit l = 8 * descriptorAt l
 
--- k is a bit of the page that is cleared
+-- k is a bit of the page that is cleared (4.31)
 unfoldable pub clears : ℕ → Bool → ℕ → Bool
 clears l many k =
     eqb k (announcingBit l)
     || (leb (descriptorBit l) k && ltb k (descriptorBit l + 256) && clearsBit many (k - descriptorBit l))
 
+-- the page after a notice: where work was announced, those bits are cleared and no other (4.3, 4.6, 4.33)
 unfoldable pub noticedPage : ℕ → List ℕ → List ℕ
 noticedPage l p =
     cond (announces l p) (mapBits (λ k b. b && not (clears l (bitOf (descriptor l p) manyBit) k)) p) p
 
 -- ---- the page after a hand-back
--- bit k of the descriptor for P, PL and the NMI mark
+-- bit k of the descriptor for P, PL and the NMI mark (10.5 to 10.9, 10.11)
 unfoldable pub handedBit : List ℕ → List ℕ → Bool → ℕ → Bool
 handedBit irr level nmi k =
     (leb k 7 && bitAt (Option·getD (highest level) 0) k)
@@ -142,15 +152,15 @@ handedBit irr level nmi k =
     || (eqb k manyBit && not (isEmpty (collect (λ v. isVector v && has irr v && not (has level v)))))
     || (isVector k && has irr k && not (has level k))
 
--- bit k of the 32 bytes for S and SL
+-- bit k of the 32 bytes for S and SL (10.10, 10.11)
 unfoldable pub servingBit : List ℕ → List ℕ → ℕ → Bool
 servingBit isr level k = isVector k && has isr k && not (has level k)
 
--- the 64 bytes that a hand-back writes
+-- the 64 bytes that a hand-back writes (10.4)
 unfoldable pub handedBytes : List ℕ → List ℕ → Bool → List ℕ → List ℕ → List ℕ
 handedBytes irr irrLevel nmi isr isrLevel =
     bytesFrom (handedBit irr irrLevel nmi) 0 32 ++ bytesFrom (servingBit isr isrLevel) 0 32
 
--- the page with 64 bytes written where the descriptor begins
+-- the page with 64 bytes written where the descriptor begins (10.3)
 unfoldable pub written : ℕ → List ℕ → List ℕ → List ℕ
 written l bytes p = take (descriptorAt l) p ++ bytes ++ drop (descriptorAt l + 64) p

@@ -28,7 +28,7 @@ use Rattle.vector_set.specs.Bits.{one}
 use Rattle.vector_set.specs.Sets.{has, collect, empty, insert, remove, highest}
 
 -- ---- events: an act on a vCPU
--- P is what is known of a page: its bytes in an event, its length in what the book is fed
+-- P is what is known of a page: its bytes in an event, its length in what the book is fed (1.3, 4.1, 5.1, 8.1, 9.1, 10.1)
 pub data Act (P : Type 0) : Type 0 where
   -- page
   notice : P → Act P
@@ -66,16 +66,17 @@ abbrev pub pageOf : Act Bytes → Bytes
 pageOf a = Option·getD (lends a) []
 
 -- ---- what an event does to a record
--- a notice: the items of its part become pending, the level-sensitive one also as such
+-- a notice: the items of its part become pending, the level-sensitive one also as such (4.25 to 4.28, 4.36)
 unfoldable pub noticed : Part → Vcpu → Vcpu
 noticed a v =
     withIrrLevel (collect (λ x. has (v .«irr_level») x || isLevel (a .level) x)) (markAll (λ x. inPart x a) v)
 
--- what an entry answers for the highest pending vector. The first argument: IF holds and shadow does not; the second: PPR
+-- what an entry answers for the highest pending vector. The first argument: IF holds and shadow does not; the second: PPR (8.8, 8.9, 8.11, 8.13)
 unfoldable pub offerHighest : Bool → ℕ → Option ℕ → Answer
 offerHighest ready p none = nothing
 offerHighest ready p (some x) = cond (leb (class x) (class p)) nothing (cond ready (presents (Vector x)) (window x))
 
+-- what an entry answers: the NMI before any vector (8.6, 8.7, 8.10, 8.16)
 unfoldable pub offer : Bool → Bool → Bool → Vcpu → Answer
 offer iF sh bl v =
     cond (v .nmi && not (sh || bl)) (presents Nmi) (offerHighest (iF && not sh) (ppr v) (highest (v .irr)))
@@ -84,45 +85,46 @@ offer iF sh bl v =
 abbrev pub gains : ℕ → List ℕ → List ℕ → List ℕ
 gains x s t = collect (λ v. has t v || (eqb v x && has s x))
 
--- an item is presented: a vector moves from P to S, and from PL to SL if there
+-- an item is presented: a vector moves from P to S, and from PL to SL if there (8.6, 8.11, 8.12)
 unfoldable pub present : Item → Vcpu → Vcpu
 present Nmi v = unmark Nmi v
 present (Vector x) v =
     withIsrLevel (gains x (v .«irr_level») (v .«isr_level»))
     (withIrrLevel (remove x (v .«irr_level»)) (withIsr (insert x (v .isr)) (unmark (Vector x) v)))
 
--- the record, which has forgotten what was in flight, after an entry's answer: a presented item is in flight
+-- the record, which has forgotten what was in flight, after an entry's answer: a presented item is in flight (8.14, 8.15)
 unfoldable pub entered : Answer → Vcpu → Vcpu
 entered nothing v = v
 entered (presents y) v = withFlight (flightOf y) (present y v)
 entered (window x) v = v
 
--- an item is returned: a vector moves from S to P, and from SL to PL if there
+-- an item is returned: a vector moves from S to P, and from SL to PL if there (9.3 to 9.6)
 unfoldable pub giveBack : Item → Vcpu → Vcpu
 giveBack Nmi v = mark Nmi v
 giveBack (Vector x) v =
     withIrrLevel (gains x (v .«isr_level») (v .«irr_level»))
     (withIsrLevel (remove x (v .«isr_level»)) (withIsr (remove x (v .isr)) (mark (Vector x) v)))
 
--- the record after a non-delivery of what was in flight
+-- the record after a non-delivery of what was in flight (9.7, 9.8)
 unfoldable pub undelivered : Option Item → Vcpu → Vcpu
 undelivered none v = forget v
 undelivered (some y) v = forget (giveBack y v)
 
--- the record after a hand-back
+-- the record after a hand-back (10.13, 10.14)
 unfoldable pub emptied : Vcpu → Vcpu
 emptied v =
     withPhase Left (withIsrLevel empty (withIrrLevel empty (withIsr empty (withAllowed empty (unmarkAll v)))))
 
--- the 64 bytes that describe a record
+-- the 64 bytes that describe a record (10.4)
 unfoldable pub handed : Vcpu → Bytes
 handed v = handedBytes (v .irr) (v .«irr_level») (v .nmi) (v .isr) (v .«isr_level»)
 
+-- the number that a hand-back gives (10.12)
 unfoldable pub handBackResult : ℕ → ℕ → Bool → Bool → ℕ
 handBackResult l tpr iF sh = l * 65536 + tpr * 256 + 2 * one sh + one iF
 
 -- ---- whether an event is accepted
--- for the vCPU i below n with the record v, at the count k
+-- for the vCPU i below n with the record v, at the count k (4.2, 5.2, 8.2, 9.2, 10.2, 11.13 to 11.18)
 unfoldable pub vcpuVerdict : ℕ → ℕ → Vcpu → Act Bytes → Verdict
 vcpuVerdict i k v (notice p) = need (isActive (v .phase)) NotActive (need (longEnough p) ShortPage accept)
 vcpuVerdict i k v (call op c x) = need (isActive (v .phase)) NotActive (callVerdict (requestOf op c x) i k (forget v))
@@ -130,6 +132,7 @@ vcpuVerdict i k v (entry iF sh bl) = need (isActive (v .phase)) NotActive accept
 vcpuVerdict i k v nonDelivery = need (isActive (v .phase)) NotActive (need (flies (v .flight)) NothingInFlight accept)
 vcpuVerdict i k v (handBack p iF sh) = need (isLeaving (v .phase)) NotLeaving (need (longEnough p) ShortPage accept)
 
+-- the vCPU number before all else (11.1, 11.12)
 unfoldable pub verdict : Module → Event → Verdict
 verdict m e = need (ltb (e .vcpu) (size m)) UnknownVcpu (vcpuVerdict (e .vcpu) (m .registrations) (vcpuAt m (e .vcpu)) (e .act))
 
@@ -146,7 +149,7 @@ pub record Effect : Type 0 where
   pub registrations : ℕ
   pub page : Bytes
 
--- a call, by what its numbers ask for; what was in flight is forgotten first
+-- a call, by what its numbers ask for; what was in flight is forgotten first (5.3, 5.4, 7.19)
 unfoldable pub callEffect : Request → ℕ → ℕ → Vcpu → Effect
 callEffect (request.Local o) i k v =
     record {
@@ -158,7 +161,7 @@ callEffect (request.Local o) i k v =
 callEffect (request.Icr x) i k v = record { reply = sends x; vcpu = withIcr x (forget v); registrations = k; page = [] }
 callEffect (request.Refused c) i k v = record { reply = gives (refused (codeOf c)); vcpu = v; registrations = k; page = [] }
 
--- at the VMPL l, on the record v of the vCPU i, at the count k. An entry too first forgets what was in flight
+-- at the VMPL l, on the record v of the vCPU i, at the count k. An entry too first forgets what was in flight (4.29, 8.3, 9.7, 10.12)
 unfoldable pub effect : ℕ → ℕ → ℕ → Vcpu → Act Bytes → Effect
 effect l i k v (notice p) =
     record {
@@ -184,12 +187,13 @@ abbrev pub effectOf : Module → Event → Effect
 effectOf m e = effect (m .vmpl) (e .vcpu) (m .registrations) (vcpuAt m (e .vcpu)) (e .act)
 
 -- ---- the step
+-- what a step gives (1.1)
 pub record Out : Type 0 where
   pub result : Result
   pub after : Module
   pub page : Bytes
 
--- a refusal changes nothing
+-- a refusal changes nothing (11.19)
 abbrev pub refusal : Refusal → Module → Bytes → Out
 refusal c m p = record { result = refused (codeOf c); after = m; page = p }
 
@@ -206,6 +210,7 @@ deliver (sends x) i m = sent (icrItem x) (icrTarget x) i m
 abbrev pub store : Effect → ℕ → Module → Module
 store f i m = withRegistrations (f .registrations) (withVcpu m i (f .vcpu))
 
+-- what an accepted event leaves (5.25, 10.15)
 unfoldable pub concluded : Effect → ℕ → Module → Out
 concluded f i m =
     record { result = resultFor (f .reply) i m; after = deliver (f .reply) i (store f i m); page = f .page }
@@ -214,6 +219,7 @@ abbrev pub decided : Verdict → Module → Event → Out
 decided accept m e = concluded (effectOf m e) (e .vcpu) m
 decided (refuse c) m e = refusal c m (pageOf (e .act))
 
+-- one event on a module value (1.1)
 unfoldable pub step : Module → Event → Out
 step m e = decided (verdict m e) m e
 
@@ -221,6 +227,7 @@ abbrev pub next : Module → Event → Module
 next m e = step m e .after
 
 -- ---- start
+-- what start answers (3.2, 3.5)
 unfoldable pub startResult : ℕ → ℕ → Result
 startResult n l = cond (mayStart n l) (done 0) (refused (codeOf BadStart))
 
@@ -235,11 +242,12 @@ abbrev pub enteredOut : Entered → Out
 enteredOut r = record { result = presentedResult (r .presentation); after = r .after; page = [] }
 
 -- ---- a list of events, each on the module that the one before it left
+-- what each event of a list gives (12.3)
 unfoldable pub run : Module → List Event → List Out
 run m [] = []
 run m (e ∷ es) = step m e ∷ run (next m e) es
 
--- the final module
+-- the final module (12.3)
 unfoldable pub final : Module → List Event → Module
 final m [] = m
 final m (e ∷ es) = final (next m e) es

@@ -17,37 +17,46 @@ use Rattle.model.specs.Doorbell.{isVector}
 use Rattle.vector_set.specs.Bits.{bitAt, bits}
 
 -- ---- the fields of the ICR
+-- the vector (7.2)
 abbrev pub icrVector : ℕ → ℕ
 icrVector x = x % 256
 
+-- the type: 0 Fixed, 4 NMI (7.3)
 abbrev pub icrType : ℕ → ℕ
 icrType x = x / 2 ^ 8 % 8
 
+-- the shorthand: 1 self, 2 all, 3 all but self (7.6)
 abbrev pub icrShorthand : ℕ → ℕ
 icrShorthand x = x / 2 ^ 18 % 4
 
+-- the destination (7.7)
 abbrev pub icrDestination : ℕ → ℕ
 icrDestination x = x / 2 ^ 32
 
 -- ---- the legal values
--- bits 14 and 15; bits 12 and 13, 16 and 17, 20 to 31
+-- bits 14 and 15; bits 12 and 13, 16 and 17, 20 to 31 (7.5, 7.8)
 unfoldable pub icrFixedBits : ℕ → Bool
 icrFixedBits x =
     bitAt x 14 && not (bitAt x 15) && eqb (x / 2 ^ 12 % 4) 0 && eqb (x / 2 ^ 16 % 4) 0 && eqb (x / 2 ^ 20 % 2 ^ 12) 0
 
+-- Fixed, with a vector that may be sent (7.9)
 unfoldable pub icrIsFixed : ℕ → Bool
 icrIsFixed x = eqb (icrType x) 0 && isVector (icrVector x)
 
+-- NMI, with a shorthand that it may have (7.9, 7.10)
 unfoldable pub icrIsNmi : ℕ → Bool
 icrIsNmi x = eqb (icrType x) 4 && not (eqb (icrShorthand x) 1 || eqb (icrShorthand x) 2)
 
+-- the value may be written (7.11)
 unfoldable pub icrLegal : ℕ → Bool
 icrLegal x = icrFixedBits x && (icrIsFixed x || icrIsNmi x)
 
 -- ---- what a legal value sends, and to whom
+-- the item that it sends (7.3, 7.17)
 unfoldable pub icrItem : ℕ → Item
 icrItem x = cond (eqb (icrType x) 4) Nmi (Vector (icrVector x))
 
+-- whom it is for (7.4, 7.6, 7.12, 7.15)
 unfoldable pub icrTarget : ℕ → Target
 icrTarget x =
     cond (eqb (icrShorthand x) 1) Caller
@@ -56,7 +65,7 @@ icrTarget x =
     (cond (eqb (icrDestination x) 0xFFFFFFFF) All
     (cond (bitAt x 11) (Logical (icrDestination x)) (Physical (icrDestination x))))))
 
--- the vCPU k is a target of an IPI that i sends
+-- the vCPU k is a target of an IPI that i sends (7.12 to 7.15)
 unfoldable pub hits : Target → ℕ → ℕ → Bool
 hits Caller i k = eqb k i
 hits All i k = true
@@ -64,11 +73,12 @@ hits Others i k = not (eqb k i)
 hits (Physical d) i k = eqb k d
 hits (Logical d) i k = eqb (d / 2 ^ 16) (k / 16) && bitAt d (k % 16)
 
--- the vCPU k, in phase p, is reached: a target below n that is active
+-- the vCPU k, in phase p, is reached: a target below n that is active (7.16, 7.18)
 abbrev pub reached : Target → ℕ → ℕ → ℕ → Phase → Bool
 reached t i n k p = ltb k n && hits t i k && isActive p
 
 -- ---- what it does
+-- the record v of the vCPU k, when i sends the item y to the target t (7.17)
 unfoldable pub reach : Item → Target → ℕ → ℕ → ℕ → Vcpu → Vcpu
 reach y t i n k v = cond (reached t i n k (v .phase)) (mark y v) v
 
@@ -77,11 +87,11 @@ unfoldable pub mapFrom : (ℕ → Vcpu → Vcpu) → ℕ → List Vcpu → List 
 mapFrom f k [] = []
 mapFrom f k (v ∷ vs) = f k v ∷ mapFrom f (suc k) vs
 
--- the module after i sent the item y to the target t
+-- the module after i sent the item y to the target t (7.16, 7.17)
 unfoldable pub sent : Item → Target → ℕ → Module → Module
 sent y t i m =
     record { n = m .n; vmpl = m .vmpl; registrations = m .registrations; vcpus = mapFrom (reach y t i (size m)) 0 (m .vcpus) }
 
--- bit k says that the vCPU k is reached
+-- bit k says that the vCPU k is reached (7.20, 7.21)
 unfoldable pub reachedBits : Target → ℕ → Module → ℕ
 reachedBits t i m = bits (λ k. reached t i (size m) k (vcpuAt m k .phase)) 0 32

@@ -34,17 +34,19 @@ abbrev pub isItem : Item → Option Item → Bool
 isItem x none = false
 isItem x (some y) = sameItem x y
 
--- the member of an allowed set that stands for an item
+-- the member of an allowed set that stands for an item (2.4)
 abbrev pub memberOf : Item → ℕ
 memberOf Nmi = 2
 memberOf (Vector v) = v
 
 -- ---- in flight
+-- the item in flight, if one is (2.11)
 abbrev pub flying : InFlight → Option Item
 flying flight.Nothing = none
 flying flight.Nmi = some Nmi
 flying (flight.Vector v) = some (Vector v)
 
+-- an item that is in flight (8.14)
 abbrev pub flightOf : Item → InFlight
 flightOf Nmi = flight.Nmi
 flightOf (Vector v) = flight.Vector v
@@ -54,23 +56,24 @@ abbrev pub pendingIn : Item → Bool → List ℕ → Bool
 pendingIn Nmi nmi irr = nmi
 pendingIn (Vector v) nmi irr = has irr v
 
+-- the item x is pending at a record (2.5, 2.8)
 abbrev pub pending : Item → Vcpu → Bool
 pending x v = pendingIn x (v .nmi) (v .irr)
 
--- the item becomes pending, as edge
+-- the item becomes pending, as edge (7.17)
 unfoldable pub mark : Item → Vcpu → Vcpu
 mark Nmi v = withNmi true v
 mark (Vector x) v = withIrr (insert x (v .irr)) v
 
--- it is pending no more
+-- it is pending no more (8.6, 8.11)
 unfoldable pub unmark : Item → Vcpu → Vcpu
 unmark Nmi v = withNmi false v
 unmark (Vector x) v = withIrr (remove x (v .irr)) v
 
--- every item of f becomes pending
+-- every item of f becomes pending (4.25, 4.28)
 unfoldable pub markAll : (Item → Bool) → Vcpu → Vcpu
 markAll f v = withNmi (v .nmi || f Nmi) (withIrr (collect (λ x. has (v .irr) x || f (Vector x))) v)
 
--- nothing is pending any more
+-- nothing is pending any more (10.13)
 unfoldable pub unmarkAll : Vcpu → Vcpu
 unmarkAll v = withNmi false (withIrr empty v)

@@ -20,7 +20,7 @@ use Rattle.model.specs.Events.{Act, notice, call, entry, nonDelivery, ha
 use Rattle.model.specs.Book.{Book, bookOf, recordAt, feed, note, partBy}
 use Rattle.model.specs.Lists.{results}
 
--- the tallies of one item on one vCPU, and what the latest accepted entry there presented
+-- the tallies of one item on one vCPU, and what the latest accepted entry there presented (13.27)
 pub record Ledger : Type 0 where
   pub presented : ℕ
   pub admitted : ℕ
@@ -48,16 +48,16 @@ addReturned b g = record { presented = g .presented; admitted = g .admitted; sen
 abbrev pub withLatest : Option Item → Ledger → Ledger
 withLatest o g = record { presented = g .presented; admitted = g .admitted; sent = g .sent; returned = g .returned; latest = o }
 
--- an IPI of the item y that i sends to the target t is one of x for j, a target active in the book
+-- an IPI of the item y that i sends to the target t is one of x for j, a target active in the book (12.21)
 abbrev pub reaches : ℕ → Item → Book → ℕ → Item → Target → Bool
 reaches j x w i y t = sameItem x y && (ltb j (w .n) && hits t i j && isActive (recordAt w j .phase))
 
--- the register c written with the value y: ICR or self-IPI
+-- the register c written with the value y: ICR or self-IPI (7.1, 12.21)
 unfoldable pub writeSends : ℕ → Item → Book → ℕ → ℕ → ℕ → Bool
 writeSends j x w i c y =
     (eqb c 0x830 && reaches j x w i (icrItem y) (icrTarget y)) || (eqb c 0x83F && reaches j x w i (item.Vector y) Caller)
 
--- what an act on the vCPU i posts for x on j, with its admitted part and its result
+-- what an act on the vCPU i posts for x on j, with its admitted part and its result (12.18 to 12.23)
 unfoldable pub postAct : ℕ → Item → Part → Book → ℕ → Act Bytes → Result → Ledger → Ledger
 postAct j x s w i (notice p) a g = addAdmitted (inPart x s && eqb j i) g
 postAct j x s w i (call op c y) a g = addSent (accepted a && (eqb op 3 && writeSends j x w i c y)) g
@@ -66,17 +66,17 @@ postAct j x s w i (entry iF sh bl) a g =
 postAct j x s w i nonDelivery a g = addReturned (accepted a && isItem x (g .latest) && eqb j i) g
 postAct j x s w i (handBack p iF sh) a g = g
 
--- folded over a list with its results, at the VMPL l, under the book that the events before left
+-- folded over a list with its results, at the VMPL l, under the book that the events before left (13.27)
 unfoldable pub ledger : ℕ → Item → ℕ → Book → List Event → List Result → Ledger → Ledger
 ledger j x l w [] rs g = g
 ledger j x l w (e ∷ es) [] g = g
 ledger j x l w (e ∷ es) (a ∷ rs) g =
     ledger j x l (feed w (note e)) es rs (postAct j x (partBy l w e) w (e .vcpu) (e .act) a g)
 
--- before any event: what an entry before the list presented is in flight, or nothing is
+-- before any event: what an entry before the list presented is in flight, or nothing is (13.28)
 abbrev pub opened : Option Item → Ledger
 opened o = record { presented = 0; admitted = 0; sent = 0; returned = 0; latest = o }
 
--- of the list es played on the module m
+-- of the list es played on the module m (13.28)
 abbrev pub ledgerOf : Module → ℕ → Item → List Event → Ledger
 ledgerOf m j x es = ledger j x (m .vmpl) (bookOf m) es (results m es) (opened (flying (vcpuAt m j .flight)))

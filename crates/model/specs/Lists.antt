@@ -12,15 +12,17 @@ use Rattle.model.specs.Events.{notice, at, Bytes, Event, Out, run}
 use Rattle.model.specs.Causes.{isHandBack}
 use Rattle.model.specs.Book.{noticePage}
 
+-- the result of each event (12.5)
 unfoldable pub results : Module → List Event → List Result
 results m es = map (λ o. o .result) (run m es)
 
--- the pages after the hand-backs
+-- of each hand-back the page after it
 unfoldable pub handBackPages : List Event → List Out → List Bytes
 handBackPages [] os = []
 handBackPages (e ∷ es) [] = []
 handBackPages (e ∷ es) (o ∷ os) = cond (isHandBack (e .act)) (o .page ∷ handBackPages es os) (handBackPages es os)
 
+-- the pages after the hand-backs of a list (13.21)
 unfoldable pub pages : Module → List Event → List Bytes
 pages m es = handBackPages es (run m es)
 
@@ -29,15 +31,17 @@ abbrev pub keepUnless : {A P : Type 0} → Option P → A → List A → List A
 keepUnless none e es = e ∷ es
 keepUnless (some p) e es = es
 
+-- the list without its notices (13.23)
 unfoldable pub struck : List Event → List Event
 struck [] = []
 struck (e ∷ es) = keepUnless (noticePage (e .act)) e (struck es)
 
--- events, and lists, that are equal but for bytes in the pages of notices, page lengths alike
+-- events, and lists, that are equal but for bytes in the pages of notices, page lengths alike (13.20)
 pub data Alike : Event → Event → Type 0 where
   same : {e : Event} → Alike e e
   notices : {i : ℕ} {p q : Bytes} → length p ≡ length q → Alike (at i (notice p)) (at i (notice q))
 
+-- lists of such events (13.20)
 pub data AllAlike : List Event → List Event → Type 0 where
   neither : AllAlike [] []
   both : {d e : Event} {ds es : List Event} → Alike d e → AllAlike ds es → AllAlike (d ∷ ds) (e ∷ es)

@@ -11,13 +11,14 @@ use Rattle.model.specs.State.{isActive}
 use Rattle.model.specs.Doorbell.{isVector}
 use Rattle.vector_set.specs.Sets.{Words, has}
 
--- a set of vectors 31 to 255 and its level-sensitive part; eight words of 32 bits have no member above 255
+-- a set of vectors 31 to 255 and its level-sensitive part; eight words of 32 bits have no member above 255 (13.13)
 pub record Levelled (s t : List ℕ) : Type 0 where
   pub words : Words s
   pub level-words : Words t
   pub vectors : (x : ℕ) → x < 31 → has s x ≡ false
   pub within : (x : ℕ) → x < 256 → has t x ≡ true → has s x ≡ true
 
+-- what holds of each record (13.13 to 13.16)
 pub record Sound (v : Vcpu) : Type 0 where
   -- A holds 2 and 31 to 255 alone
   pub words : Words (v .allowed)

@@ -27,20 +27,20 @@ use Rattle.vector_set.specs.Sets.{insert, remove}
 abbrev pub bad : Request
 bad = request.Refused BadParameter
 
--- call 1, by ECX
+-- call 1, by ECX (5.7)
 unfoldable pub registration : ℕ → Request
 registration c =
     cond (eqb c 0) (request.Local Leave)
     (cond (eqb c 1) (request.Local Release) (cond (eqb c 2) (request.Local Register) bad))
 
--- call 2, by the kind of the register
+-- call 2, by the kind of the register (6.15)
 abbrev pub readBy : Kind → ℕ → Request
 readBy kind.None r = request.Refused BadRegister
 readBy kind.Read r = request.Local (Read r)
 readBy kind.Write r = request.Refused BadRegister
 readBy kind.Both r = request.Local (Read r)
 
--- the value written to EOI, self-IPI, TPR or ICR; no other register may be written
+-- the value written to EOI, self-IPI, TPR or ICR; no other register may be written (6.21 to 6.24)
 unfoldable pub writeValue : ℕ → ℕ → Request
 writeValue r x =
     cond (eqb r 0x80B) (cond (eqb x 0) (request.Local Eoi) bad)
@@ -48,23 +48,23 @@ writeValue r x =
     (cond (eqb r 0x808) (cond (leb x 255) (request.Local (SetTpr x)) bad)
     (cond (eqb r 0x830) (cond (icrLegal x) (request.Icr x) bad) (request.Refused BadRegister))))
 
--- call 3, by the kind of the register
+-- call 3, by the kind of the register (6.15)
 abbrev pub writeBy : Kind → ℕ → ℕ → Request
 writeBy kind.None r x = request.Refused BadRegister
 writeBy kind.Read r x = bad
 writeBy kind.Write r x = writeValue r x
 writeBy kind.Both r x = writeValue r x
 
--- ECX of call 4 is within the rule
+-- ECX of call 4 is within the rule (5.17, 5.18)
 unfoldable pub nameable : ℕ → Bool
 nameable c = (eqb (c % 256) 2 || isVector (c % 256)) && ltb c 512
 
--- call 4, by ECX
+-- call 4, by ECX (5.15, 5.16)
 unfoldable pub permission : ℕ → Request
 permission c =
     cond (nameable c) (cond (bitAt c 8) (request.Local (Allow (c % 256))) (request.Local (Disallow (c % 256)))) bad
 
--- a call by its number, ECX and RDX
+-- a call by its number, ECX and RDX (5.1, 5.5, 5.6, 5.21, 5.24)
 unfoldable pub requestOf : ℕ → ℕ → ℕ → Request
 requestOf op c x =
     cond (eqb op 0) (request.Local Features)
@@ -81,9 +81,11 @@ pub record Served : Type 0 where
   pub vcpu : Vcpu
   pub registrations : ℕ
 
+-- nothing is in flight any more (5.3)
 abbrev pub forget : Vcpu → Vcpu
 forget v = withFlight Nothing v
 
+-- leaving, if so (5.8)
 abbrev pub leaveIf : Bool → Vcpu → Vcpu
 leaveIf true v = withPhase Leaving v
 leaveIf false v = v
@@ -92,7 +94,7 @@ leaveIf false v = v
 abbrev pub always : ℕ → Vcpu → ℕ → Served
 always x v k = record { verdict = accept; value = x; vcpu = v; registrations = k }
 
--- a request on the record v of the vCPU i, which has forgotten what was in flight, at the count k. k - 1 is 0 at 0
+-- a request on the record v of the vCPU i, which has forgotten what was in flight, at the count k. k - 1 is 0 at 0 (5.5, 5.8 to 5.14, 5.16, 5.19, 5.20, 5.22, 5.23, 6.22, 6.25, 7.22, 7.23)
 unfoldable pub serve : Local → ℕ → ℕ → Vcpu → Served
 serve Features i k v = always 0 v k
 serve Leave i k v = always 0 (leaveIf (eqb k 0) v) k
@@ -111,7 +113,7 @@ serve (SetTpr x) i k v = always 0 (withTpr x v) k
 serve Eoi i k v = always (endedLevel v) (ended v) k
 serve (SelfIpi x) i k v = always (bits (λ j. eqb j i) 0 32) (mark (item.Vector x) v) k
 
--- whether a request is served at the count k, on the record v of the vCPU i
+-- whether a request is served at the count k, on the record v of the vCPU i (5.12)
 unfoldable pub callVerdict : Request → ℕ → ℕ → Vcpu → Verdict
 callVerdict (request.Local o) i k v = serve o i k v .verdict
 callVerdict (request.Icr x) i k v = accept

@@ -14,23 +14,26 @@ use Rattle.model.specs.declared.Vcpu.{Vcpu}
 use Rattle.model.specs.declared.Module.{Module}
 use Rattle.vector_set.specs.Sets.{empty}
 
+-- the phase is active (2.10)
 abbrev pub isActive : Phase → Bool
 isActive Active = true
 isActive Leaving = false
 isActive Left = false
 
+-- the phase is leaving (2.10)
 abbrev pub isLeaving : Phase → Bool
 isLeaving Active = false
 isLeaving Leaving = true
 isLeaving Left = false
 
--- something is in flight
+-- something is in flight (2.11)
 abbrev pub flies : InFlight → Bool
 flies Nothing = false
 flies Nmi = true
 flies (Vector v) = true
 
 -- ---- a record by its parts: A, P, S, PL, SL, the NMI mark, TPR, ICR, the phase, what is in flight
+-- the record with these parts (2.3, 2.8 to 2.12)
 abbrev pub vcpu : List ℕ → List ℕ → List ℕ → List ℕ → List ℕ → Bool → ℕ → ℕ → Phase → InFlight → Vcpu
 vcpu a p s pl sl nmi tpr icr ph fl =
     record {
@@ -46,15 +49,15 @@ vcpu a p s pl sl nmi tpr icr ph fl =
       flight = fl;
     }
 
--- a record with nothing in it, in a phase
+-- a record with nothing in it, in a phase (3.4)
 unfoldable pub bare : Phase → Vcpu
 bare p = vcpu empty empty empty empty empty false 0 0 p Nothing
 
--- a fresh record
+-- a fresh record (3.3, 3.4)
 abbrev pub fresh : Vcpu
 fresh = bare Active
 
--- what stands in the array where the module has no record: a vCPU that has left
+-- what stands in the array where the module has no record: a vCPU that has left (2.13)
 abbrev pub absent : Vcpu
 absent = bare Left
 
@@ -90,11 +93,11 @@ abbrev pub withFlight : InFlight → Vcpu → Vcpu
 withFlight x v = vcpu (v .allowed) (v .irr) (v .isr) (v .«irr_level») (v .«isr_level») (v .nmi) (v .tpr) (v .icr) (v .phase) x
 
 -- ---- the module
--- the n that a module value is answered with: 0 where n is over 32 or L is not 1 to 3
+-- the n that a module value is answered with: 0 where n is over 32 or L is not 1 to 3 (2.15)
 unfoldable pub size : Module → ℕ
 size m = cond (leb (m .n) 32 && leb 1 (m .vmpl) && leb (m .vmpl) 3) (m .n) 0
 
--- the record of the vCPU i
+-- the record of the vCPU i (2.2)
 unfoldable pub vcpuAt : Module → ℕ → Vcpu
 vcpuAt m i = getD (m .vcpus) i absent
 
@@ -106,18 +109,19 @@ unfoldable pub withRegistrations : ℕ → Module → Module
 withRegistrations k m = record { n = m .n; vmpl = m .vmpl; registrations = k; vcpus = m .vcpus }
 
 -- ---- start
+-- n and L with which start is accepted (3.1)
 abbrev pub mayStart : ℕ → ℕ → Bool
 mayStart n l = leb 1 n && leb n 32 && leb 1 l && leb l 3
 
--- n fresh records, and the count 1
+-- n fresh records, and the count 1 (3.2 to 3.4, 2.13)
 unfoldable pub started : ℕ → ℕ → Module
 started n l =
     record { n = n; vmpl = l; registrations = 1; vcpus = replicate n fresh ++ replicate (32 - n) absent }
 
--- what a refused start gives
+-- what a refused start gives (3.6)
 unfoldable pub stopped : Module
 stopped = record { n = 0; vmpl = 1; registrations = 0; vcpus = replicate 32 absent }
 
--- the module that start gives for n and L, refused or not
+-- the module that start gives for n and L, refused or not (3.2, 3.6)
 unfoldable pub start : ℕ → ℕ → Module
 start n l = cond (mayStart n l) (started n l) stopped

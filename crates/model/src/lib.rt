@@ -21,7 +21,7 @@ pub enum Item {
     Vector(u8),
 }
 
-// The record of one vCPU. Document 01's names of the sets are A, P, S, PL and SL, in this order.
+// The record of one vCPU. docs/SPECIFICATION.md names the sets A, P, S, PL and SL, in this order.
 pub struct Vcpu {
     pub allowed: [u32; 8],
     pub irr: [u32; 8],

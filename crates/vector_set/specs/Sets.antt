@@ -12,7 +12,7 @@ use Rattle.vector_set.specs.declared.Found.{Found}
 use Rattle.vector_set.specs.declared.Found.the-variants.{Vector, Nothing}
 use Rattle.vector_set.specs.Bits.{one, bitAt, bits}
 
--- v is a member of s: bit v mod 32 of word v div 32
+-- v is a member of s: bit v mod 32 of word v div 32 (2.7)
 unfoldable pub has : List ℕ → ℕ → Bool
 has s v = bitAt (getD s (v / 32) 0) (v % 32)
 
@@ -76,7 +76,7 @@ isNone (some v) = false
 unfoldable pub isEmpty : List ℕ → Bool
 isEmpty s = isNone (highest s)
 
--- the members 32 k to 32 k + 31 as a number, the lowest in bit 0
+-- the members 32 k to 32 k + 31 as a number, the lowest in bit 0 (6.14)
 unfoldable pub wordOf : List ℕ → ℕ → ℕ
 wordOf s k = bits (λ v. has s v) (32 * k) 32
 

@@ -17,7 +17,7 @@ use Rattle.model.specs.Doorbell.{items, admitted}
 use Rattle.model.specs.Events.{notice, at, Bytes, Event, effect, concluded, Out, step, final}
 use Rattle.model.specs.Book.{bookOf, feedAll, note, partBy}
 use Rattle.model.specs.Ledger.{ledgerOf}
-use Rattle.model.specs.Demand3.{bookAfter, Exact, Isolated, Demand3}
+use Rattle.model.specs.Demand3.{bookAfter, Exact, FromAny, Demand3}
 use Rattle.vector_set.specs.Bits.{one}
 use Rattle.vector_set.proofs.Laws.{has-empty}
 use Rattle.model.proofs.Stored.{by-verdict}
@@ -44,7 +44,7 @@ exact-after m es i p =
     (vmpl-final es m) (exact-at (final m es) i p))
 
 -- ---- from any module value
-pub isolated : (m : Module) → Isolated m
+pub isolated : FromAny
 isolated m =
     record {
       same = λ ds es a h. alike m a h;

@@ -21,7 +21,7 @@ use Rattle.model.specs.Events.{Act, notice, call, entry, nonDelivery, ha
 pub data Cause : Type 0 where
   cause : ℕ → Bool → Cause
 
--- the code of the first cause that holds, if any does
+-- the code of the first cause that holds, if any does (11.12)
 unfoldable pub firstCause : List Cause → Option ℕ
 firstCause [] = none
 firstCause (cause c b ∷ cs) = cond b (some c) (firstCause cs)
@@ -87,7 +87,7 @@ badEcx op c = (eqb op 1 && ltb 2 c) || (eqb op 4 && not (nameable c))
 abbrev pub registering : ℕ → ℕ → Bool
 registering op c = eqb op 1 && eqb c 2
 
--- the causes of a call's numbers at the count k: call, register, kind, value or ECX, count (11.7 to 11.11)
+-- the causes of a call's numbers at the count k: call, register, kind, value or ECX, count (11.7 to 11.12)
 unfoldable pub callCauses : ℕ → ℕ → ℕ → ℕ → List Cause
 callCauses k op c x =
     -- no such call

@@ -55,7 +55,7 @@ abbrev pub resultOf : Outcome → Result
 resultOf (outcome.Done x) = done x
 resultOf (outcome.Refused c) = refused (codeOf c)
 
--- what an entry's presentation says (8.5)
+-- what an entry's presentation says (8.5, 13.9)
 abbrev pub presentedResult : Presentation → Result
 presentedResult presentation.Nothing = answers nothing
 presentedResult presentation.Nmi = answers (presents item.Nmi)

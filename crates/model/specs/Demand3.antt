@@ -1,4 +1,4 @@
--- Demand 3: isolation and the bound on presentations, one claim over whole lists of events (13.19 to 13.29).
+-- Demand 3: isolation and the bound on presentations, one claim over whole lists of events (13.19 to 13.30, 13.34).
 -- Assumes nothing.
 use mathlib.Core.Path.{_≡_}
 use mathlib.Core.Bool.{true}
@@ -54,6 +54,10 @@ pub record Isolated (m : Module) : Type 0 where
   pub most : (es : List Event) (j : ℕ) (x : Item) → InRange x
       → ledgerOf m j x es .presented
       ≤ one (pending x (vcpuAt m j)) + ledgerOf m j x es .admitted + ledgerOf m j x es .sent + ledgerOf m j x es .returned
+
+-- from every module value (13.28)
+abbrev pub FromAny : Type 0
+FromAny = (m : Module) → Isolated m
 
 -- ---- the demand: lists played on what start gives, refused or not
 pub record Demand3 (n l : ℕ) : Type 0 where

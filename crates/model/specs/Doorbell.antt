@@ -47,7 +47,7 @@ descriptorAt l = 64 * l
 unfoldable pub descriptor : ℕ → List ℕ → List ℕ
 descriptor l p = take 32 (drop (descriptorAt l) p)
 
--- bits 7:0 of its word 0 (4.9)
+-- bits 7:0 of the descriptor d, which are its byte 0 (4.9)
 abbrev pub vectorField : List ℕ → ℕ
 vectorField d = getD d 0 0
 
@@ -137,7 +137,7 @@ clears l many k =
     eqb k (announcingBit l)
     || (leb (descriptorBit l) k && ltb k (descriptorBit l + 256) && clearsBit many (k - descriptorBit l))
 
--- the page after a notice: where work was announced, those bits are cleared and no other (4.3, 4.6, 4.33)
+-- the page after a notice: where work was announced, those bits are cleared and no other (4.3, 4.6, 4.31, 4.33)
 unfoldable pub noticedPage : ℕ → List ℕ → List ℕ
 noticedPage l p =
     cond (announces l p) (mapBits (λ k b. b && not (clears l (bitOf (descriptor l p) manyBit) k)) p) p

@@ -66,7 +66,7 @@ abbrev pub pageOf : Act Bytes → Bytes
 pageOf a = Option·getD (lends a) []
 
 -- ---- what an event does to a record
--- a notice: the items of its part become pending, the level-sensitive one also as such (4.25 to 4.28, 4.36)
+-- a notice: the items of its part become pending, the level-sensitive one also as such (4.25 to 4.28, 4.36, 5.4)
 unfoldable pub noticed : Part → Vcpu → Vcpu
 noticed a v =
     withIrrLevel (collect (λ x. has (v .«irr_level») x || isLevel (a .level) x)) (markAll (λ x. inPart x a) v)
@@ -110,7 +110,7 @@ unfoldable pub undelivered : Option Item → Vcpu → Vcpu
 undelivered none v = forget v
 undelivered (some y) v = forget (giveBack y v)
 
--- the record after a hand-back (10.13, 10.14)
+-- the record after a hand-back (5.4, 10.13, 10.14)
 unfoldable pub emptied : Vcpu → Vcpu
 emptied v =
     withPhase Left (withIsrLevel empty (withIrrLevel empty (withIsr empty (withAllowed empty (unmarkAll v)))))
@@ -149,7 +149,7 @@ pub record Effect : Type 0 where
   pub registrations : ℕ
   pub page : Bytes
 
--- a call, by what its numbers ask for; what was in flight is forgotten first (5.3, 5.4, 7.19)
+-- a call, by what its numbers ask for; what was in flight is forgotten first (5.3, 7.19)
 unfoldable pub callEffect : Request → ℕ → ℕ → Vcpu → Effect
 callEffect (request.Local o) i k v =
     record {
@@ -193,11 +193,11 @@ pub record Out : Type 0 where
   pub after : Module
   pub page : Bytes
 
--- a refusal changes nothing (11.19)
+-- a refusal changes nothing (5.4, 11.19)
 abbrev pub refusal : Refusal → Module → Bytes → Out
 refusal c m p = record { result = refused (codeOf c); after = m; page = p }
 
--- the result, where i sent what is to be sent
+-- the result; of an ICR write by i the vCPUs that are reached (5.23, 7.20)
 abbrev pub resultFor : Reply → ℕ → Module → Result
 resultFor (gives r) i m = r
 resultFor (sends x) i m = done (reachedBits (icrTarget x) i m)

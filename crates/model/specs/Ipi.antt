@@ -65,7 +65,7 @@ icrTarget x =
     (cond (eqb (icrDestination x) 0xFFFFFFFF) All
     (cond (bitAt x 11) (Logical (icrDestination x)) (Physical (icrDestination x))))))
 
--- the vCPU k is a target of an IPI that i sends (7.12 to 7.15)
+-- the vCPU k is a target of an IPI that i sends (7.6, 7.12 to 7.15)
 unfoldable pub hits : Target → ℕ → ℕ → Bool
 hits Caller i k = eqb k i
 hits All i k = true
@@ -78,7 +78,7 @@ abbrev pub reached : Target → ℕ → ℕ → ℕ → Phase → Bool
 reached t i n k p = ltb k n && hits t i k && isActive p
 
 -- ---- what it does
--- the record v of the vCPU k, when i sends the item y to the target t (7.17)
+-- the record v of the vCPU k, when i sends the item y to the target t (5.4, 7.17)
 unfoldable pub reach : Item → Target → ℕ → ℕ → ℕ → Vcpu → Vcpu
 reach y t i n k v = cond (reached t i n k (v .phase)) (mark y v) v
 

@@ -57,7 +57,7 @@ unfoldable pub writeSends : ℕ → Item → Book → ℕ → ℕ → ℕ → Bo
 writeSends j x w i c y =
     (eqb c 0x830 && reaches j x w i (icrItem y) (icrTarget y)) || (eqb c 0x83F && reaches j x w i (item.Vector y) Caller)
 
--- what an act on the vCPU i posts for x on j, with its admitted part and its result (12.18 to 12.23)
+-- what an act on the vCPU i posts for x on j, with its admitted part and its result (7.1, 12.18 to 12.23)
 unfoldable pub postAct : ℕ → Item → Part → Book → ℕ → Act Bytes → Result → Ledger → Ledger
 postAct j x s w i (notice p) a g = addAdmitted (inPart x s && eqb j i) g
 postAct j x s w i (call op c y) a g = addSent (accepted a && (eqb op 3 && writeSends j x w i c y)) g

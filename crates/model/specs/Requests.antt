@@ -40,7 +40,7 @@ readBy kind.Read r = request.Local (Read r)
 readBy kind.Write r = request.Refused BadRegister
 readBy kind.Both r = request.Local (Read r)
 
--- the value written to EOI, self-IPI, TPR or ICR; no other register may be written (6.21 to 6.24)
+-- the value written to EOI, self-IPI, TPR or ICR; no other register may be written (6.6, 6.12, 6.21 to 6.24)
 unfoldable pub writeValue : ℕ → ℕ → Request
 writeValue r x =
     cond (eqb r 0x80B) (cond (eqb x 0) (request.Local Eoi) bad)
@@ -64,7 +64,7 @@ unfoldable pub permission : ℕ → Request
 permission c =
     cond (nameable c) (cond (bitAt c 8) (request.Local (Allow (c % 256))) (request.Local (Disallow (c % 256)))) bad
 
--- a call by its number, ECX and RDX (5.1, 5.5, 5.6, 5.21, 5.24)
+-- a call by its number, ECX and RDX (5.1, 5.5, 5.6, 5.21, 5.24, 11.14)
 unfoldable pub requestOf : ℕ → ℕ → ℕ → Request
 requestOf op c x =
     cond (eqb op 0) (request.Local Features)
@@ -94,7 +94,7 @@ leaveIf false v = v
 abbrev pub always : ℕ → Vcpu → ℕ → Served
 always x v k = record { verdict = accept; value = x; vcpu = v; registrations = k }
 
--- a request on the record v of the vCPU i, which has forgotten what was in flight, at the count k. k - 1 is 0 at 0 (5.5, 5.8 to 5.14, 5.16, 5.19, 5.20, 5.22, 5.23, 6.22, 6.25, 7.22, 7.23)
+-- a request on the record v of the vCPU i, which has forgotten what was in flight, at the count k. k - 1 is 0 at 0 (5.5, 5.8 to 5.14, 5.16, 5.19, 5.20, 5.22, 5.23, 6.22, 6.25, 7.22, 7.23, 11.18)
 unfoldable pub serve : Local → ℕ → ℕ → Vcpu → Served
 serve Features i k v = always 0 v k
 serve Leave i k v = always 0 (leaveIf (eqb k 0) v) k
@@ -113,7 +113,7 @@ serve (SetTpr x) i k v = always 0 (withTpr x v) k
 serve Eoi i k v = always (endedLevel v) (ended v) k
 serve (SelfIpi x) i k v = always (bits (λ j. eqb j i) 0 32) (mark (item.Vector x) v) k
 
--- whether a request is served at the count k, on the record v of the vCPU i (5.12)
+-- whether a request is served at the count k, on the record v of the vCPU i (5.12, 11.14)
 unfoldable pub callVerdict : Request → ℕ → ℕ → Vcpu → Verdict
 callVerdict (request.Local o) i k v = serve o i k v .verdict
 callVerdict (request.Icr x) i k v = accept

@@ -118,7 +118,7 @@ unfoldable pub started : ℕ → ℕ → Module
 started n l =
     record { n = n; vmpl = l; registrations = 1; vcpus = replicate n fresh ++ replicate (32 - n) absent }
 
--- what a refused start gives (3.6)
+-- what a refused start gives (2.13, 3.6)
 unfoldable pub stopped : Module
 stopped = record { n = 0; vmpl = 1; registrations = 0; vcpus = replicate 32 absent }
 

@@ -35,7 +35,7 @@ pub struct Vcpu {
     pub flight: InFlight,
 }
 
-// The module for one guest VMPL. The records at n and above hold nothing.
+// The module for one guest VMPL. No event reads or writes the records at n and above.
 pub struct Module {
     pub n: u32,
     pub vmpl: u32,

@@ -1,11 +1,10 @@
-//! The book of "The lists of demand 3": what the guest has allowed, told from the events'
-//! arguments and page lengths. It is fed no byte of a page and no answer.
+//! The book (12.6 to 12.17): phases and permissions, followed without page bytes or answers.
 
 use crate::calls::allow_rule;
 use crate::set::VectorSet;
 use crate::state::{Module, Phase};
 
-/// One event as the book sees it; kinds that change nothing are left out.
+/// 12.9. Kinds of event that the book never heeds are left out.
 pub enum Entry {
     Call { vcpu: u32, call: u32, ecx: u32 },
     HandBack { vcpu: u32, length: usize },
@@ -25,7 +24,7 @@ pub struct Book {
 }
 
 impl Book {
-    /// "At first as in that module": what start gives, refused or not.
+    /// 12.8
     pub fn of(m: &Module) -> Book {
         let page = |r: &crate::state::Record| Page {
             phase: r.phase,
@@ -42,6 +41,7 @@ impl Book {
         vcpu < self.n && self.vcpus[vcpu as usize].phase == Phase::Active
     }
 
+    /// 12.10, 12.11, 12.17
     pub fn enter(&mut self, entry: &Entry) {
         match *entry {
             Entry::Call { vcpu, call: 1, ecx } if self.active(vcpu) => self.registration(vcpu, ecx),
@@ -51,6 +51,7 @@ impl Book {
         }
     }
 
+    /// 12.12 to 12.14
     fn registration(&mut self, vcpu: u32, ecx: u32) {
         if ecx == 1 && self.count != 0 {
             self.count -= 1;
@@ -63,6 +64,7 @@ impl Book {
         }
     }
 
+    /// 12.15
     fn allow(&mut self, vcpu: u32, ecx: u32) {
         let set = &mut self.vcpus[vcpu as usize].allowed;
         if !allow_rule(ecx) {
@@ -75,6 +77,7 @@ impl Book {
         }
     }
 
+    /// 12.16
     fn hand_back(&mut self, vcpu: u32, length: usize) {
         if vcpu >= self.n || length < 256 {
             return;

@@ -1,12 +1,13 @@
-//! Section "Guest calls" of document 01.
+//! Guest calls (section 5), writes of registers (6.21 to 6.29) and IPIs (section 7).
 //!
-//! Every check comes before the first change, so a refusal changes nothing.
+//! All checks of a call stand ahead of its changes (11.19).
 
 use crate::codes::*;
 use crate::icr;
 use crate::registers::{self, Kind};
 use crate::state::{Item, Module, Phase, Record};
 
+/// 5.2, 5.3
 pub fn call(m: &mut Module, vcpu: u32, call: u32, ecx: u32, rdx: u64) -> Result<u64, Code> {
     m.active(vcpu)?;
     check(m.count, call, ecx, rdx)?;
@@ -20,7 +21,7 @@ pub fn call(m: &mut Module, vcpu: u32, call: u32, ecx: u32, rdx: u64) -> Result<
     })
 }
 
-/// Order: call, register, kind, value or ECX, count.
+/// The checks that follow the phase, in the order of 11.12.
 fn check(count: u8, call: u32, ecx: u32, rdx: u64) -> Result<(), Code> {
     match call {
         0 => Ok(()),
@@ -38,6 +39,7 @@ fn check(count: u8, call: u32, ecx: u32, rdx: u64) -> Result<(), Code> {
     }
 }
 
+/// 5.7, 5.12
 fn check_registration(count: u8, ecx: u32) -> Result<(), Code> {
     match (ecx, count) {
         (0 | 1, _) => Ok(()),
@@ -48,6 +50,7 @@ fn check_registration(count: u8, ecx: u32) -> Result<(), Code> {
     }
 }
 
+/// 6.15
 fn check_read(register: u32) -> Result<(), Code> {
     match registers::kind(register) {
         Kind::Read | Kind::Both => Ok(()),
@@ -55,6 +58,7 @@ fn check_read(register: u32) -> Result<(), Code> {
     }
 }
 
+/// 6.15, 6.21
 fn check_write(register: u32, value: u64) -> Result<(), Code> {
     match registers::kind(register) {
         Kind::None => Err(BAD_REGISTER),
@@ -69,6 +73,7 @@ fn check_write(register: u32, value: u64) -> Result<(), Code> {
     }
 }
 
+/// 6.22 to 6.24
 fn value_rule(register: u32, value: u64) -> bool {
     match register {
         registers::EOI => value == 0,
@@ -79,12 +84,13 @@ fn value_rule(register: u32, value: u64) -> bool {
     }
 }
 
-/// The rule of call 4: bits 9 to 31 are 0, and the vector named is 2 or 31 to 255.
+/// 5.17, 5.18
 pub fn allow_rule(ecx: u32) -> bool {
     let vector = ecx % 256;
     ecx < 512 && (vector == 2 || vector >= 31)
 }
 
+/// 5.16
 fn allow(record: &mut Record, ecx: u32) -> u64 {
     let vector = (ecx % 256) as usize;
     if ecx / 256 % 2 == 1 {
@@ -95,6 +101,7 @@ fn allow(record: &mut Record, ecx: u32) -> u64 {
     0
 }
 
+/// 5.8 to 5.11
 fn register(m: &mut Module, vcpu: u32, ecx: u32) -> u64 {
     if ecx == 2 {
         m.count += 1;
@@ -109,6 +116,7 @@ fn register(m: &mut Module, vcpu: u32, ecx: u32) -> u64 {
     0
 }
 
+/// 5.23
 fn write(m: &mut Module, vcpu: u32, register: u32, value: u64) -> u64 {
     match register {
         registers::TPR => {
@@ -125,7 +133,7 @@ fn write(m: &mut Module, vcpu: u32, register: u32, value: u64) -> u64 {
     }
 }
 
-/// The result is the level-sensitive vector for an explicit EOI to the host, or 0.
+/// 6.25 to 6.28
 fn eoi(record: &mut Record) -> u64 {
     let Some(v) = record.service.highest() else {
         return 0;
@@ -140,7 +148,7 @@ fn eoi(record: &mut Record) -> u64 {
     }
 }
 
-/// Sends to each active vCPU that is named; bit i of the result says that vCPU i was reached.
+/// 7.16, 7.17, 7.20
 fn send(m: &mut Module, item: Item, named: impl Fn(u32) -> bool) -> u64 {
     let mut reached = 0;
     for id in 0..m.n {

@@ -5,7 +5,7 @@ use std::io::{BufRead, Result};
 
 use crate::lines::Lines;
 
-/// Every line that document 01 lets an event have, its number left out.
+/// The lines that can be printed (`docs/REPLAY.md`, section 11), numbers left out but for codes.
 const EXPECTED: [&str; 31] = [
     "start ok",
     "start refused 0x5",
@@ -75,7 +75,7 @@ impl Coverage {
             .collect()
     }
 
-    /// Lines that no event may have.
+    /// Lines that are none of these.
     pub fn unexpected(&self) -> Vec<&str> {
         let known = |kind: &str| EXPECTED.contains(&kind);
         self.counts

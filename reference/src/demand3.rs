@@ -1,9 +1,7 @@
 //! Demand 3, checked on generated lists.
 //!
-//! (a) A list and its twin, equal but for bytes of notice pages with equal admitted parts under the
-//! book, give equal results, equal pages after hand-backs and the same final module.
-//! (b) Each vector and the NMI is presented on each vCPU at most as often as it was admitted, sent
-//! and returned there. Every beginning of a list is a list, so this is checked after each event.
+//! (a) Isolation (13.20, 13.21), tried on a list and its twin.
+//! (b) The bound (13.26, 13.27). A list cut short is a list too, so it is checked at each event.
 
 use crate::book::{Book, Entry};
 use crate::events::{Answer, Event, Shown};
@@ -19,7 +17,7 @@ use crate::twin;
 /// Anything that answers events: the reference, or a wrong gate in a test of this check.
 pub type Gate = fn(&mut Module, &mut Event) -> Answer;
 
-/// What demand 3 compares.
+/// What isolation compares (13.21).
 #[derive(PartialEq, Eq, Debug)]
 pub struct Played {
     pub answers: Vec<Answer>,
@@ -43,7 +41,7 @@ pub fn played(list: &[Event], gate: Gate) -> Played {
     p
 }
 
-/// The book and the VMPL at the beginning of a list; the list's first event is its start.
+/// The book and the VMPL that a list opens with (12.8); start stands first in the list.
 pub fn opened(list: &[Event]) -> (Book, u32) {
     let Some(Event::Start { n, vmpl }) = list.first() else {
         panic!("a list begins with start");
@@ -52,7 +50,7 @@ pub fn opened(list: &[Event]) -> (Book, u32) {
     (Book::of(&module), module.vmpl)
 }
 
-/// What of an event the book is fed.
+/// 12.9
 pub fn entry_of(event: &Event) -> Option<Entry> {
     match event {
         Event::Call {
@@ -70,7 +68,7 @@ pub fn entry_of(event: &Event) -> Option<Entry> {
     }
 }
 
-/// The set allowed in the book if a notice on this vCPU with a page of this length is accepted.
+/// 12.18: the vCPU's set in the book, if a notice with a page so long is accepted by it.
 pub fn accepting(book: &Book, vcpu: u32, length: usize) -> Option<&VectorSet> {
     if book.active(vcpu) && length >= 256 {
         Some(&book.vcpus[vcpu as usize].allowed)
@@ -79,6 +77,7 @@ pub fn accepting(book: &Book, vcpu: u32, length: usize) -> Option<&VectorSet> {
     }
 }
 
+/// 12.19, 12.20
 pub fn admitted_by_book(book: &Book, vmpl: u32, vcpu: u32, page: &[u8]) -> Admitted {
     match accepting(book, vcpu, page.len()) {
         Some(allowed) => admitted(page, vmpl, allowed),
@@ -86,8 +85,8 @@ pub fn admitted_by_book(book: &Book, vmpl: u32, vcpu: u32, page: &[u8]) -> Admit
     }
 }
 
-/// For one vCPU: how often each item may still be presented, and what the latest accepted entry
-/// presented. Item 256 is the NMI.
+/// For one vCPU: how many more times each item could be presented under the bound, and the item of
+/// its last accepted entry (12.22). Item 256 is the NMI.
 #[derive(Clone)]
 struct Account {
     rest: Vec<i64>,
@@ -134,6 +133,7 @@ impl Counts {
         Ok(())
     }
 
+    /// 12.22
     fn give_back(&mut self, vcpu: u32) -> Result<(), String> {
         let Some(item) = self.accounts[vcpu as usize].latest else {
             return Err(format!(
@@ -144,6 +144,7 @@ impl Counts {
         Ok(())
     }
 
+    /// 12.21
     fn send(&mut self, book: &Book, vcpu: u32, register: u32, value: u64) {
         for id in (0..book.n).filter(|&id| book.active(id)) {
             match register {
@@ -154,6 +155,7 @@ impl Counts {
         }
     }
 
+    /// 12.23
     fn count(&mut self, book: &Book, vmpl: u32, e: &Event, a: &Answer) -> Result<(), String> {
         match (e, a) {
             (Event::Notice { vcpu, page }, _) => {
@@ -181,7 +183,7 @@ impl Counts {
     }
 }
 
-/// Part (b), and that the book agrees with the module at the end.
+/// Part (b), and that book and module agree when the list is over (13.22).
 pub fn bounded(list: &[Event], played: &Played) -> Result<(), String> {
     let (mut book, vmpl) = opened(list);
     let none = Account {

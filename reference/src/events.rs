@@ -1,4 +1,4 @@
-//! The events: host notice, entry, non-delivery and hand-back; guest calls are in `calls`.
+//! The events (sections 4 and 8 to 10); guest calls are in `calls`.
 
 use crate::calls;
 use crate::codes::{Code, NOTHING_IN_FLIGHT, NOT_LEAVING};
@@ -40,7 +40,7 @@ pub enum Event {
     },
 }
 
-/// What an accepted entry answers.
+/// 8.4
 #[derive(Clone, Copy, PartialEq, Eq, Debug)]
 pub enum Shown {
     Nothing,
@@ -58,7 +58,7 @@ pub enum Answer {
     HandBack(Result<u32, Code>),
 }
 
-/// Plays one event on the module; the page stands in the event and is changed there.
+/// One step (1.1). The page is a part of the event and is changed there.
 pub fn step(m: &mut Module, event: &mut Event) -> Answer {
     match event {
         Event::Start { n, vmpl } => {
@@ -89,6 +89,7 @@ pub fn step(m: &mut Module, event: &mut Event) -> Answer {
     }
 }
 
+/// 4.2, 4.6, 4.25 to 4.31
 pub fn notice(m: &mut Module, vcpu: u32, page: &mut [u8]) -> Result<u32, Code> {
     m.active(vcpu)?;
     page::long_enough(page)?;
@@ -110,6 +111,7 @@ pub fn notice(m: &mut Module, vcpu: u32, page: &mut [u8]) -> Result<u32, Code> {
     Ok(part.number())
 }
 
+/// 8.2, 8.3, 8.6 to 8.14
 pub fn entry(
     m: &mut Module,
     vcpu: u32,
@@ -138,7 +140,7 @@ pub fn entry(
     Ok(Shown::Presented(Item::Vector(v)))
 }
 
-/// The vector moves from P to S, and from PL to SL if there; it is in flight.
+/// 8.11, 8.12, 8.14
 fn present(record: &mut Record, v: usize) {
     record.pending.take(v);
     record.service.put(v);
@@ -149,6 +151,7 @@ fn present(record: &mut Record, v: usize) {
     record.flight = Some(Item::Vector(v));
 }
 
+/// 9.2, 9.3, 9.7
 pub fn non_delivery(m: &mut Module, vcpu: u32) -> Result<u32, Code> {
     m.active(vcpu)?;
     let record = m.record_mut(vcpu);
@@ -161,7 +164,7 @@ pub fn non_delivery(m: &mut Module, vcpu: u32) -> Result<u32, Code> {
     Ok(0)
 }
 
-/// The vector leaves S and SL and joins P, and PL if it was in SL.
+/// 9.4 to 9.6
 fn give_back(record: &mut Record, v: usize) {
     record.service.take(v);
     record.pending.put(v);
@@ -171,6 +174,7 @@ fn give_back(record: &mut Record, v: usize) {
     }
 }
 
+/// 10.2, 10.12 to 10.14
 pub fn hand_back(
     m: &mut Module,
     vcpu: u32,

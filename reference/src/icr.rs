@@ -1,4 +1,4 @@
-//! The ICR: which values are legal, and which vCPUs a legal value names.
+//! The ICR: legal values, what they send, and to which vCPUs (7.2 to 7.15).
 
 use crate::state::Item;
 
@@ -15,6 +15,7 @@ const FIXED: u64 = 0;
 const NMI: u64 = 4;
 const EVERYONE: u64 = 0xFFFF_FFFF;
 
+/// 7.11
 pub fn legal(value: u64) -> bool {
     let kind = field(value, 10, 8);
     let shorthand = field(value, 19, 18);
@@ -29,7 +30,7 @@ pub fn legal(value: u64) -> bool {
         && (kind != NMI || (shorthand != 1 && shorthand != 2))
 }
 
-/// What a legal value sends.
+/// 7.3, 7.17
 pub fn item(value: u64) -> Item {
     if field(value, 10, 8) == NMI {
         Item::Nmi
@@ -38,7 +39,7 @@ pub fn item(value: u64) -> Item {
     }
 }
 
-/// Whether a legal value written by `caller` names the vCPU `id`.
+/// 7.6, 7.12: whether the vCPU `id` is a target of what `caller` writes.
 pub fn names(value: u64, caller: u32, id: u32) -> bool {
     match field(value, 19, 18) {
         1 => id == caller,
@@ -48,6 +49,7 @@ pub fn names(value: u64, caller: u32, id: u32) -> bool {
     }
 }
 
+/// 7.13 to 7.15
 fn destination_names(value: u64, id: u32) -> bool {
     let destination = field(value, 63, 32);
     let logical = bit(value, 11);

@@ -1,5 +1,6 @@
-//! A second implementation of document 01 in plain Rust, written from the text alone and kept
-//! naive so that it can be read beside the text. It shares no code with the gate.
+//! A second implementation of the gate, in plain Rust, written from document 01 (the scope paper)
+//! alone; it shares no code with the gate. It is kept naive so that it can be read beside
+//! `docs/SPECIFICATION.md`: a number such as 4.17 in a comment is a clause there.
 
 pub mod book;
 pub mod calls;

@@ -1,5 +1,5 @@
-//! The doorbell page: the announcing bit, the descriptor, the admitted part of a notice, and what
-//! a hand-back writes. The functions take pages of 256 bytes or more and a VMPL of 1 to 3.
+//! The doorbell page under a notice (4.3 to 4.35) and under a hand-back (10.3 to 10.11). But for
+//! `long_enough` the functions want 256 bytes and a VMPL from 1 to 3.
 
 use crate::codes::{Code, SHORT_PAGE};
 use crate::set::VectorSet;
@@ -11,7 +11,7 @@ const LEVEL: usize = 10;
 const MANY: usize = 14;
 const LOWEST: usize = 31;
 
-/// Code 2: the page is under 256 bytes.
+/// 11.2
 pub fn long_enough(page: &[u8]) -> Result<(), Code> {
     if page.len() >= 256 {
         Ok(())
@@ -20,7 +20,7 @@ pub fn long_enough(page: &[u8]) -> Result<(), Code> {
     }
 }
 
-/// Bit `number` of the little-endian number that starts at byte `start`.
+/// Bit `number`, counted from byte `start` on (4.8).
 pub fn bit(page: &[u8], start: usize, number: usize) -> bool {
     page[start + number / 8] / 2u8.pow((number % 8) as u32) % 2 == 1
 }
@@ -37,17 +37,17 @@ pub fn clear_bit(page: &mut [u8], start: usize, number: usize) {
     }
 }
 
-/// Where the descriptor of this VMPL starts.
+/// The first byte of this VMPL's descriptor (4.7).
 pub fn descriptor(vmpl: u32) -> usize {
     64 * vmpl as usize
 }
 
-/// InjectionInfo is the 16-bit word at byte 2; its bit 7 + L announces work.
+/// 4.4, 4.5
 pub fn announces(page: &[u8], vmpl: u32) -> bool {
     bit(page, INJECTION_INFO, 7 + vmpl as usize)
 }
 
-/// The admitted part of a notice.
+/// 4.14
 #[derive(Clone, PartialEq, Eq, Debug)]
 pub struct Admitted {
     pub nmi: bool,
@@ -56,6 +56,7 @@ pub struct Admitted {
 }
 
 impl Admitted {
+    /// 4.20
     pub fn nothing() -> Admitted {
         Admitted {
             nmi: false,
@@ -64,7 +65,7 @@ impl Admitted {
         }
     }
 
-    /// The number of admitted items, the NMI counted.
+    /// 4.29
     pub fn number(&self) -> u32 {
         let nmi = if self.nmi { 1 } else { 0 };
         let level = if self.level.is_some() { 1 } else { 0 };
@@ -72,7 +73,7 @@ impl Admitted {
     }
 }
 
-/// The admitted part of an accepted notice with this page under the set allowed.
+/// 4.15 to 4.24
 pub fn admitted(page: &[u8], vmpl: u32, allowed: &VectorSet) -> Admitted {
     if !announces(page, vmpl) {
         return Admitted::nothing();
@@ -99,6 +100,7 @@ pub fn admitted(page: &[u8], vmpl: u32, allowed: &VectorSet) -> Admitted {
     part
 }
 
+/// 4.18
 fn marked_and_allowed(page: &[u8], vmpl: u32, allowed: &VectorSet) -> VectorSet {
     let mut set = VectorSet::empty();
     for v in LOWEST..=255 {
@@ -109,7 +111,7 @@ fn marked_and_allowed(page: &[u8], vmpl: u32, allowed: &VectorSet) -> VectorSet 
     set
 }
 
-/// The page after an accepted notice that announced work.
+/// 4.31 to 4.35
 pub fn clear_notice(page: &mut [u8], vmpl: u32) {
     let start = descriptor(vmpl);
     let mut cleared: Vec<usize> = (0..=10).collect();
@@ -123,7 +125,7 @@ pub fn clear_notice(page: &mut [u8], vmpl: u32) {
     }
 }
 
-/// What a hand-back writes: the 64 bytes from byte 64 × L on, and no others.
+/// 10.3 to 10.11
 pub fn write_handback(page: &mut [u8], vmpl: u32, record: &Record) {
     let start = descriptor(vmpl);
     page[start..start + 64].fill(0);
@@ -145,7 +147,7 @@ pub fn write_handback(page: &mut [u8], vmpl: u32, record: &Record) {
     );
 }
 
-/// Sets the bits of the members 31 to 255 and says whether there are any.
+/// 10.7, 10.10: marks a set without its vectors under 31, and tells whether a mark was made.
 fn write_vectors(page: &mut [u8], start: usize, set: &VectorSet) -> bool {
     let mut any = false;
     for v in LOWEST..=255 {

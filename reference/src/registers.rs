@@ -1,4 +1,4 @@
-//! The register table and what registers read as.
+//! Registers: their kinds and their values (section 6).
 
 use crate::state::Record;
 
@@ -18,8 +18,7 @@ pub const LDR: u32 = 0x80D;
 pub const ICR: u32 = 0x830;
 pub const SELF_IPI: u32 = 0x83F;
 
-/// The kind of any register number; those outside 0x800 to 0x8FF are none too, and get the same
-/// code.
+/// 6.2 to 6.13
 pub fn kind(register: u32) -> Kind {
     match register {
         ID | PPR | LDR | 0x810..=0x827 => Kind::Read,
@@ -29,11 +28,12 @@ pub fn kind(register: u32) -> Kind {
     }
 }
 
-/// The class of a vector is its value div 16.
+/// 1.13
 pub fn class(vector: usize) -> usize {
     vector / 16
 }
 
+/// 6.17 to 6.19
 pub fn ppr(record: &Record) -> usize {
     let s = record.service.highest().unwrap_or(0);
     let tpr = record.tpr as usize;
@@ -44,11 +44,12 @@ pub fn ppr(record: &Record) -> usize {
     }
 }
 
+/// 6.16
 pub fn ldr(id: u32) -> u64 {
     u64::from(id / 16) * 65_536 + 2u64.pow(id % 16)
 }
 
-/// The value of a register whose kind is read or both.
+/// What call 2 gives for a register that it may read (6.3 to 6.11, 6.20).
 pub fn read(record: &Record, id: u32, register: u32) -> u64 {
     let k = (register % 8) as usize;
     match register {

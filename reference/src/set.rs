@@ -66,7 +66,7 @@ impl VectorSet {
         set
     }
 
-    /// Register number k of eight: 32 vectors each, lowest vectors first.
+    /// 6.14
     pub fn register(&self, k: usize) -> u64 {
         let mut value = 0;
         for i in 0..32 {

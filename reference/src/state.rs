@@ -1,4 +1,4 @@
-//! Section "State" of document 01.
+//! The module and its records (section 2), and start (section 3).
 
 use crate::codes::{Code, BAD_START, NOT_ACTIVE, UNKNOWN_VCPU};
 use crate::set::VectorSet;
@@ -10,13 +10,14 @@ pub enum Phase {
     Left,
 }
 
-/// The NMI or one vector: what a notice admits, an IPI sends and an entry presents.
+/// What can be admitted, sent, presented and returned: the NMI or a vector.
 #[derive(Clone, Copy, PartialEq, Eq, Debug)]
 pub enum Item {
     Nmi,
     Vector(usize),
 }
 
+/// 2.3 to 2.11
 #[derive(Clone, PartialEq, Eq, Debug)]
 pub struct Record {
     pub allowed: VectorSet,
@@ -28,10 +29,10 @@ pub struct Record {
     pub tpr: u8,
     pub icr: u64,
     pub phase: Phase,
-    /// What is in flight; `None` is nothing.
     pub flight: Option<Item>,
 }
 
+/// 2.1
 #[derive(Clone, PartialEq, Eq, Debug)]
 pub struct Module {
     pub n: u32,
@@ -41,6 +42,7 @@ pub struct Module {
 }
 
 impl Record {
+    /// 3.3, 3.4
     pub fn fresh() -> Record {
         Record {
             allowed: VectorSet::empty(),
@@ -58,7 +60,7 @@ impl Record {
 }
 
 impl Module {
-    /// The module that a refused start gives.
+    /// The stopped module (3.6).
     pub fn refused() -> Module {
         Module {
             n: 0,
@@ -68,8 +70,7 @@ impl Module {
         }
     }
 
-    /// How many vCPUs the module answers for: "a module value with n over 32 or L not 1 to 3 is
-    /// answered as one with n 0".
+    /// How many vCPUs the module answers for (2.15).
     pub fn vcpus(&self) -> u32 {
         if self.n <= 32 && (1..=3).contains(&self.vmpl) {
             self.n
@@ -78,7 +79,7 @@ impl Module {
         }
     }
 
-    /// Code 1: the vCPU is not below n.
+    /// 11.1
     pub fn known(&self, vcpu: u32) -> Result<(), Code> {
         if vcpu < self.vcpus() {
             Ok(())
@@ -87,7 +88,7 @@ impl Module {
         }
     }
 
-    /// The first two checks of a call, notice, entry or non-delivery.
+    /// 11.1 and 11.6, with which every event but a hand-back begins.
     pub fn active(&self, vcpu: u32) -> Result<(), Code> {
         self.known(vcpu)?;
         if self.record(vcpu).phase == Phase::Active {
@@ -106,7 +107,7 @@ impl Module {
     }
 }
 
-/// Start: the answer and the module that is there afterwards.
+/// The answer to a start and its module (3.1 to 3.6).
 pub fn start(n: u32, vmpl: u32) -> (Result<(), Code>, Module) {
     if !(1..=32).contains(&n) || !(1..=3).contains(&vmpl) {
         return (Err(BAD_START), Module::refused());

@@ -1,4 +1,4 @@
-//! Reading one line of a trace.
+//! Reading one line of a trace (`docs/REPLAY.md`).
 
 use crate::events::Event;
 use crate::lines::LONGEST;
@@ -64,7 +64,7 @@ fn event(name: &[u8], arguments: &[&[u8]]) -> Option<Event> {
     }
 }
 
-/// Decimal digits, or `0x` and hexadecimal digits, the value within 64 bits.
+/// In base 10, or in base 16 behind `0x`; no more than 64 bits.
 pub fn number(word: &[u8]) -> Option<u64> {
     let (digits, base) = match word {
         [b'0', b'x', digits @ ..] => (digits, 16),
@@ -95,7 +95,7 @@ fn flag(word: &[u8]) -> Option<bool> {
     }
 }
 
-/// The length, then `OFFSET=BYTE` for bytes; where an offset comes twice the last one counts.
+/// A length and words `OFFSET=BYTE`; a later word for an offset wins.
 fn page(length: &[u8], bytes: &[&[u8]]) -> Option<Vec<u8>> {
     let length = number(length)?;
     if length > LONGEST_PAGE {

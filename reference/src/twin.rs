@@ -1,5 +1,4 @@
-//! The second list of demand 3: equal to the first but for bytes of notice pages, page lengths and
-//! admitted parts alike.
+//! The other list of 13.20 and 13.21: notices get new bytes of the same length that admit the same.
 
 use crate::demand3::{accepting, entry_of, opened};
 use crate::events::Event;
@@ -74,7 +73,7 @@ fn change(r: &mut Random, page: &mut [u8], vmpl: u32) {
     }
 }
 
-/// A page of other bytes that admits the same part, often in another form.
+/// New bytes all over that admit the same part, often by another form.
 fn rebuilt(r: &mut Random, length: usize, vmpl: u32, a: &VectorSet, part: &Admitted) -> Vec<u8> {
     let start = descriptor(vmpl);
     let mut page: Vec<u8> = (0..length).map(|_| r.byte()).collect();

@@ -1,4 +1,4 @@
-//! Every case of document 01's section "Cases", and its misreadings.
+//! The worked cases and the wrong readings (section 14).
 
 mod common;
 
@@ -10,6 +10,7 @@ use reference::registers::ppr;
 use reference::set::VectorSet;
 use reference::state::{Item, Phase};
 
+/// 14.4
 #[test]
 fn one_allowed_vector_is_admitted() {
     let mut m = allowing(&[0x41]);
@@ -19,6 +20,7 @@ fn one_allowed_vector_is_admitted() {
     assert_eq!(p, page(&[]));
 }
 
+/// 14.5
 #[test]
 fn a_vector_not_allowed_is_dropped() {
     let mut m = allowing(&[]);
@@ -28,6 +30,7 @@ fn a_vector_not_allowed_is_dropped() {
     assert_eq!(p, page(&[]));
 }
 
+/// 14.6
 #[test]
 fn a_page_that_announces_nothing_stays() {
     let mut m = allowing(&[0x41]);
@@ -37,6 +40,7 @@ fn a_page_that_announces_nothing_stays() {
     assert_eq!(p, page(&[(64, 0x41)]));
 }
 
+/// 14.7
 #[test]
 fn many_passes_over_the_single_vector() {
     let mut m = fresh(2, 1);
@@ -47,6 +51,7 @@ fn many_passes_over_the_single_vector() {
     assert_eq!(p, page(&[]));
 }
 
+/// 14.8
 #[test]
 fn a_level_sensitive_vector_is_named_at_its_eoi() {
     let mut m = allowing(&[0x61]);
@@ -62,6 +67,7 @@ fn a_level_sensitive_vector_is_named_at_its_eoi() {
     assert_eq!(read(&mut m, 0, 0x81B), Ok(0));
 }
 
+/// 14.9
 #[test]
 fn vector_30_is_not_admitted_and_cleared() {
     let mut m = fresh(2, 1);
@@ -72,6 +78,7 @@ fn vector_30_is_not_admitted_and_cleared() {
     assert_eq!(p, page(&[]));
 }
 
+/// 14.10
 #[test]
 fn the_class_decides_on_presenting() {
     let mut m = fresh(2, 1);
@@ -85,6 +92,7 @@ fn the_class_decides_on_presenting() {
     );
 }
 
+/// 14.11
 #[test]
 fn ppr_is_the_higher_class() {
     let mut m = fresh(2, 1);
@@ -97,12 +105,14 @@ fn ppr_is_the_higher_class() {
     assert_eq!(read(&mut m, 0, 0x80A), Ok(0x4A));
 }
 
+/// 14.12
 #[test]
 fn ldr_of_vcpu_17() {
     let mut m = fresh(18, 1);
     assert_eq!(read(&mut m, 17, 0x80D), Ok(0x0001_0002));
 }
 
+/// 14.13
 #[test]
 fn what_call_4_may_name() {
     let mut m = fresh(2, 1);
@@ -114,6 +124,7 @@ fn what_call_4_may_name() {
     assert_eq!(m.records[0].allowed, set(&[2, 31]));
 }
 
+/// 14.14
 #[test]
 fn registering_after_the_count_reached_0() {
     let mut m = fresh(2, 1);
@@ -121,6 +132,7 @@ fn registering_after_the_count_reached_0() {
     assert_eq!(call(&mut m, 1, 1, REGISTER, 0), Err(COUNT_ZERO));
 }
 
+/// 14.15
 #[test]
 fn a_hand_back() {
     let mut m = fresh(2, 1);
@@ -133,6 +145,7 @@ fn a_hand_back() {
     assert!(m.records[0].pending.is_empty());
 }
 
+/// 14.16
 #[test]
 fn a_page_of_255_bytes_is_short() {
     let mut m = allowing(&[0x41]);
@@ -148,7 +161,7 @@ fn a_page_of_255_bytes_is_short() {
     assert_eq!(hand_back(&mut m, 0, &mut p, false, false), Ok(0x1_0000));
 }
 
-/// Misreading: testing A only for bits 31 to 255 and not for bits 7:0.
+/// 14.17
 #[test]
 fn misreading_single_vectors_are_tested_too() {
     for low in [0x00, 0x04, 0x40, 0x44] {
@@ -159,7 +172,7 @@ fn misreading_single_vectors_are_tested_too() {
     }
 }
 
-/// Misreading: letting an edge IPI erase a level-sensitive mark.
+/// 14.18
 #[test]
 fn misreading_an_edge_request_keeps_the_level_mark() {
     let mut m = allowing(&[0x61]);
@@ -179,7 +192,7 @@ fn misreading_an_edge_request_keeps_the_level_mark() {
     assert_eq!(write(&mut m, 0, 0x80B, 0), Ok(0x61));
 }
 
-/// Misreading: delivering at equal class.
+/// 14.19
 #[test]
 fn misreading_equal_class_waits() {
     let mut m = fresh(2, 1);
@@ -193,7 +206,7 @@ fn misreading_equal_class_waits() {
     );
 }
 
-/// Misreading: clearing S but not SL on non-delivery.
+/// 14.20
 #[test]
 fn misreading_non_delivery_clears_both() {
     let mut m = allowing(&[0x61]);

@@ -1,4 +1,4 @@
-//! The register table, the ICR rules and the order of the checks.
+//! Kinds and values of registers, legal ICR values, codes and their order (sections 6, 7 and 11).
 
 mod common;
 
@@ -9,6 +9,7 @@ use reference::events::{entry, hand_back, non_delivery, notice};
 use reference::registers::{kind, Kind};
 use reference::state::{Module, Phase};
 
+/// 6.1 to 6.13
 #[test]
 fn the_table_of_kinds() {
     let mut readable = vec![0x802, 0x808, 0x80A, 0x80D, 0x830];
@@ -25,7 +26,7 @@ fn the_table_of_kinds() {
     }
 }
 
-/// "register outside the table, kind none, or reading a write kind" against "writing a read kind".
+/// 6.15, 11.8, 11.9
 #[test]
 fn the_codes_of_the_kinds() {
     for register in 0x7FF..=0x900 {
@@ -50,6 +51,7 @@ fn the_codes_of_the_kinds() {
     }
 }
 
+/// 1.16, 6.21 to 6.23
 #[test]
 fn written_values_are_whole() {
     let mut m = fresh(2, 1);
@@ -69,7 +71,7 @@ fn written_values_are_whole() {
     assert_eq!(write(&mut m, 0, 0x83F, 255), Ok(1));
 }
 
-/// Each rule of the ICR broken once.
+/// 7.3, 7.5, 7.8 to 7.11: each broken once.
 #[test]
 fn icr_rules() {
     let refused = |value: u64| {
@@ -103,7 +105,7 @@ fn icr_rules() {
     }
 }
 
-/// "Order: 1, phase (0x80000001 or 3), 2 or 4, call, register, kind, value or ECX, count."
+/// 11.12 to 11.17, 11.19
 #[test]
 fn the_order_of_the_checks() {
     let mut m = fresh(2, 1);
@@ -129,6 +131,7 @@ fn the_order_of_the_checks() {
     assert_eq!(m, before);
 }
 
+/// 11.3, 11.6
 #[test]
 fn no_event_works_on_a_vcpu_that_has_left() {
     let mut m = fresh(2, 1);
@@ -145,7 +148,7 @@ fn no_event_works_on_a_vcpu_that_has_left() {
     assert_eq!(m, before);
 }
 
-/// "Call 0 ignores ECX; only call 3 reads RDX."
+/// 5.5, 5.6
 #[test]
 fn arguments_that_are_not_read() {
     let mut m = fresh(2, 1);
@@ -156,6 +159,7 @@ fn arguments_that_are_not_read() {
     assert_eq!(m.count, 2);
 }
 
+/// 6.3 to 6.11, 6.14, 6.16
 #[test]
 fn what_registers_read_as() {
     let mut m: Module = fresh(32, 1);

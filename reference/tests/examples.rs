@@ -1,9 +1,11 @@
-//! Every trace in `examples` gives the output stored beside it.
+//! Every trace in `examples` gives the output stored beside it, and so does the trace of the gate's
+//! own run (`crates/replay`).
 
 use std::fs;
 use std::path::Path;
 
 use reference::coverage::Coverage;
+use reference::generate::generate;
 use reference::play::play_text;
 
 fn stored() -> Vec<(String, Vec<u8>, String)> {
@@ -38,4 +40,16 @@ fn the_examples_show_everything() {
     let outputs: String = stored().into_iter().map(|(_, _, output)| output).collect();
     let coverage = Coverage::of(outputs.as_bytes()).unwrap();
     assert!(coverage.complete(), "{}", coverage.report());
+}
+
+/// The examples in the order of their names, then 20,000 generated events of seed 4.
+#[test]
+fn the_stored_trace() {
+    let mut examples = stored();
+    examples.sort();
+    let mut trace = examples.into_iter().flat_map(|e| e.1).collect::<Vec<u8>>();
+    generate(4, 20_000, &mut trace).unwrap();
+    let directory = Path::new(env!("CARGO_MANIFEST_DIR")).join("../crates/replay");
+    assert!(fs::read(directory.join("stdin")).unwrap() == trace);
+    assert!(fs::read_to_string(directory.join("stdout")).unwrap() == play_text(&trace));
 }

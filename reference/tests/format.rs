@@ -1,4 +1,4 @@
-//! The trace format, both directions.
+//! The trace format (`docs/REPLAY.md`), both directions.
 
 use reference::coverage::Coverage;
 use reference::events::Event;

@@ -69,6 +69,7 @@ fn the_corners_occur() {
     assert!((0x7FF..=0x900).all(|register| registers.contains(&register)));
 }
 
+/// 13.20 to 13.27
 #[test]
 fn demand_3_holds() {
     for seed in 0..5 {
@@ -80,7 +81,7 @@ fn fails(gate: Gate) -> bool {
     check(1, 20_000, gate).is_err()
 }
 
-/// Bits 7:0 come in without a look at A.
+/// Against 4.19: the single vector comes in unasked.
 fn untested_vector(m: &mut Module, event: &mut Event) -> Answer {
     let sent = match event {
         Event::Notice { vcpu, page } if *vcpu < m.n && page.len() >= 256 => {
@@ -97,7 +98,7 @@ fn untested_vector(m: &mut Module, event: &mut Event) -> Answer {
     answer
 }
 
-/// The number of admitted items counts a byte that was passed over.
+/// Against 4.29: a byte that no rule reads is counted.
 fn invented_number(m: &mut Module, event: &mut Event) -> Answer {
     let extra = match event {
         Event::Notice { page, .. } if !page.is_empty() => u32::from(page[0] % 2),
@@ -109,7 +110,7 @@ fn invented_number(m: &mut Module, event: &mut Event) -> Answer {
     }
 }
 
-/// A presented vector stays pending.
+/// Against 8.11: a presented vector stays pending.
 fn presented_twice(m: &mut Module, event: &mut Event) -> Answer {
     let answer = step(m, event);
     if let (Event::Entry { vcpu, .. }, Answer::Entry(Ok(Shown::Presented(Item::Vector(v))))) =
@@ -120,7 +121,7 @@ fn presented_twice(m: &mut Module, event: &mut Event) -> Answer {
     answer
 }
 
-/// A refused notice leaves a trace in the module.
+/// Against 11.19: a refused notice leaves a trace in the module.
 fn refused_notice_remembered(m: &mut Module, event: &mut Event) -> Answer {
     let answer = step(m, event);
     if let (Event::Notice { vcpu, page }, Answer::Notice(Err(2))) = (event, answer) {
@@ -129,7 +130,7 @@ fn refused_notice_remembered(m: &mut Module, event: &mut Event) -> Answer {
     answer
 }
 
-/// Leaving empties A before the hand-back does.
+/// Against 10.13: a leaving vCPU loses its permissions before its hand-back.
 fn forgets_early(m: &mut Module, event: &mut Event) -> Answer {
     let answer = step(m, event);
     for record in m.records.iter_mut().filter(|r| r.phase == Phase::Leaving) {
@@ -147,8 +148,7 @@ fn wrong_gates_are_found() {
     assert!(fails(forgets_early));
 }
 
-/// Demand 2: a descriptor handed back, read again with work announced and everything allowed,
-/// gives the NMI, the edge set and the highest level-sensitive vector that were pending.
+/// 13.10, 13.11
 #[test]
 fn a_hand_back_reads_back() {
     let mut m = Module::refused();
@@ -171,7 +171,7 @@ fn a_hand_back_reads_back() {
     assert!(seen > 50);
 }
 
-/// "P and S hold only 31 to 255, PL lies within P and SL within S."
+/// 13.13 to 13.16
 #[test]
 fn what_holds_of_every_module_reached() {
     let mut m = Module::refused();
@@ -182,6 +182,13 @@ fn what_holds_of_every_module_reached() {
             assert!((0..31).all(|v| !either.has(v)));
             assert!(record.pending_level.without(&record.pending).is_empty());
             assert!(record.serving_level.without(&record.service).is_empty());
+            assert!((0..31).all(|v| v == 2 || !record.allowed.has(v)));
+            if let Some(item) = record.flight {
+                assert_eq!(record.phase, Phase::Active);
+                assert!(
+                    matches!(item, Item::Vector(v) if record.service.has(v)) || item == Item::Nmi
+                );
+            }
         }
     }
 }

@@ -1,4 +1,4 @@
-//! Points where readers of document 01 part ways, each with the sentence that decides it.
+//! The points of `docs/DECISIONS.md`, each with the clauses that say how it was decided.
 
 mod common;
 
@@ -16,20 +16,20 @@ fn presented(v: usize) -> Result<Shown, Code> {
     Ok(Shown::Presented(Item::Vector(v)))
 }
 
-fn every_event_is_unknown(m: &mut Module) {
+fn every_event_is_unknown(m: &mut Module, vcpu: u32) {
     let before = m.clone();
-    assert_eq!(notice(m, 0, &mut page(&[(3, 7)])), Err(UNKNOWN_VCPU));
-    assert_eq!(call(m, 0, 0, 0, 0), Err(UNKNOWN_VCPU));
-    assert_eq!(entry(m, 0, true, false, false), Err(UNKNOWN_VCPU));
-    assert_eq!(non_delivery(m, 0), Err(UNKNOWN_VCPU));
+    assert_eq!(notice(m, vcpu, &mut page(&[(3, 7)])), Err(UNKNOWN_VCPU));
+    assert_eq!(call(m, vcpu, 0, 0, 0), Err(UNKNOWN_VCPU));
+    assert_eq!(entry(m, vcpu, true, false, false), Err(UNKNOWN_VCPU));
+    assert_eq!(non_delivery(m, vcpu), Err(UNKNOWN_VCPU));
     assert_eq!(
-        hand_back(m, 0, &mut page(&[]), true, false),
+        hand_back(m, vcpu, &mut page(&[]), true, false),
         Err(UNKNOWN_VCPU)
     );
     assert_eq!(*m, before);
 }
 
-/// "Start is refused unless n is 1 to 32 and L is 1 to 3"; no number is cut to a narrower one.
+/// 1.16, 3.1, 3.2, 3.5
 #[test]
 fn start_takes_whole_numbers() {
     for (n, l) in [
@@ -52,7 +52,7 @@ fn start_takes_whole_numbers() {
     }
 }
 
-/// "vCPU not below n", "call above 4".
+/// 1.16, 11.1, 11.7
 #[test]
 fn vcpu_and_call_are_whole_numbers() {
     let mut m = fresh(2, 1);
@@ -64,30 +64,41 @@ fn vcpu_and_call_are_whole_numbers() {
     }
 }
 
-/// "so every event on it gives code 1".
+/// 3.6, 3.7
 #[test]
 fn a_refused_module_knows_no_vcpu() {
     let mut m = Module::refused();
     assert_eq!((m.n, m.vmpl, m.count, m.records.len()), (0, 1, 0, 0));
-    every_event_is_unknown(&mut m);
+    every_event_is_unknown(&mut m, 0);
 }
 
-/// "A module value with n over 32 or L not 1 to 3 is answered as one with n 0."
+/// 2.14: a record stands there, and no event comes to it.
+#[test]
+fn places_at_n_and_above_are_left_alone() {
+    let mut m = fresh(3, 1);
+    m.n = 2;
+    let third = m.records[2].clone();
+    every_event_is_unknown(&mut m, 2);
+    assert_eq!(write(&mut m, 0, 0x830, 0x0008_4041), Ok(3));
+    assert_eq!(write(&mut m, 0, 0x830, 0x0000_0002_0000_4041), Ok(0));
+    assert_eq!(m.records[2], third);
+}
+
+/// 2.15
 #[test]
 fn a_module_value_out_of_range_knows_no_vcpu() {
     let mut many = fresh(32, 1);
     many.n = 33;
     many.records.push(many.records[0].clone());
-    every_event_is_unknown(&mut many);
+    every_event_is_unknown(&mut many, 0);
     for vmpl in [0, 4, 257] {
         let mut m = fresh(2, 1);
         m.vmpl = vmpl;
-        every_event_is_unknown(&mut m);
+        every_event_is_unknown(&mut m, 0);
     }
 }
 
-/// "InjectionInfo is the 16-bit word at byte 2; its bit 7 + L announces work", and "no other bit
-/// changes".
+/// 4.4, 4.5, 4.33
 #[test]
 fn each_level_has_its_announcing_bit() {
     for vmpl in 1..=3 {
@@ -112,8 +123,7 @@ fn each_level_has_its_announcing_bit() {
     }
 }
 
-/// "as edge, if bits 10 and 14 are clear": bit 10 with a vector that may not come in as
-/// level-sensitive gives nothing, and the marks under bit 14 have their own rule.
+/// 4.22
 #[test]
 fn a_refused_level_vector_is_no_edge_vector() {
     for vector in [0, 2, 30, 0x80] {
@@ -127,7 +137,7 @@ fn a_refused_level_vector_is_no_edge_vector() {
     }
 }
 
-/// "every marked vector 31 to 255 in A other than that level-sensitive one": counted once.
+/// 4.18, 4.24
 #[test]
 fn a_marked_level_vector_counts_once() {
     let mut m = allowing(&[0x41, 0x42]);
@@ -137,7 +147,7 @@ fn a_marked_level_vector_counts_once() {
     assert_eq!(m.records[0].pending_level, set(&[0x41]));
 }
 
-/// "descriptor bits 0 to 10 and 14 are cleared, and, if bit 14 was set, bits 31 to 255".
+/// 4.31 to 4.35
 #[test]
 fn which_bits_survive_a_notice() {
     let mut m = fresh(2, 2);
@@ -161,7 +171,7 @@ fn which_bits_survive_a_notice() {
     assert_eq!(single, after);
 }
 
-/// "The result is the number of admitted items, the NMI counted": pending already or not.
+/// 4.29, 4.30
 #[test]
 fn items_count_each_time_and_226_is_most() {
     let mut m = fresh(2, 1);
@@ -177,7 +187,7 @@ fn items_count_each_time_and_226_is_most() {
     assert!(m.records[0].nmi);
 }
 
-/// "if at least 31 and in A": 2 in A lets in the NMI, never vector 2.
+/// 4.23
 #[test]
 fn vector_2_is_only_the_nmi() {
     let mut m = allowing(&[2]);
@@ -191,7 +201,30 @@ fn vector_2_is_only_the_nmi() {
     assert!(m.records[0].nmi);
 }
 
-/// "An accepted guest call or entry first forgets what is in flight on its vCPU."
+/// 4.36: the NMI, a level-sensitive and an edge vector come in, and all else stays.
+#[test]
+fn a_notice_changes_what_is_pending_alone() {
+    let mut m = fresh(2, 1);
+    m.count = 7;
+    let r = &mut m.records[0];
+    r.allowed = set(&[2, 0x41, 0x61]);
+    r.pending = set(&[0x50]);
+    r.pending_level = set(&[0x50]);
+    r.service = set(&[0x33, 0x70]);
+    r.serving_level = set(&[0x33]);
+    r.tpr = 0xAB;
+    r.icr = 0x4041;
+    r.flight = Some(Item::Vector(0x70));
+    let mut after = m.clone();
+    after.records[0].pending = set(&[0x41, 0x50, 0x61]);
+    after.records[0].pending_level = set(&[0x50, 0x61]);
+    after.records[0].nmi = true;
+    let mut p = page(&[(3, 1), (64, 0x61), (65, 0x45), (72, 0x02)]);
+    assert_eq!(notice(&mut m, 0, &mut p), Ok(3));
+    assert_eq!(m, after);
+}
+
+/// 5.3, 5.4, 8.3
 #[test]
 fn what_forgets_what_is_in_flight() {
     let mut m = fresh(2, 1);
@@ -223,7 +256,7 @@ fn what_forgets_what_is_in_flight() {
     assert_eq!(non_delivery(&mut by_entry, 0), Err(NOTHING_IN_FLIGHT));
 }
 
-/// "ECX 1 takes one from the count unless it is 0, then acts as ECX 0."
+/// 5.8 to 5.10
 #[test]
 fn deregistering_at_count_0_leaves() {
     let mut m = fresh(2, 1);
@@ -235,7 +268,7 @@ fn deregistering_at_count_0_leaves() {
     assert_eq!(m.records[1].phase, Phase::Leaving);
 }
 
-/// "registering at count 255", "registering at count 0"; the count comes last in the order.
+/// 5.7, 5.12, 11.18
 #[test]
 fn the_codes_of_registering() {
     let mut m = fresh(2, 1);
@@ -250,7 +283,7 @@ fn the_codes_of_registering() {
     assert_eq!(call(&mut m, 0, 1, 0x102, 0), Err(BAD_VALUE));
 }
 
-/// "With S empty it succeeds and names none."
+/// 6.28
 #[test]
 fn eoi_with_an_empty_s_changes_no_set() {
     let mut m = fresh(2, 1);
@@ -259,8 +292,7 @@ fn eoi_with_an_empty_s_changes_no_set() {
     assert_eq!(m.records[0].serving_level, set(&[0x61]));
 }
 
-/// "Under a shorthand the destination is not read"; no rule forbids bit 11 there, nor any vector
-/// of an NMI.
+/// 7.9, 7.12
 #[test]
 fn shorthands_and_nmi_vectors() {
     let mut m = fresh(18, 1);
@@ -276,7 +308,7 @@ fn shorthands_and_nmi_vectors() {
     assert!(m.records[17].nmi);
 }
 
-/// "Destination 0xFFFFFFFF is all, either way", and a value that names nobody is stored.
+/// 7.13 to 7.15, 7.19, 7.21
 #[test]
 fn destinations() {
     let mut m = fresh(18, 1);
@@ -296,7 +328,7 @@ fn destinations() {
     assert_eq!(send(&mut m, 0x0000_8001_0000_4841), 0x8001);
 }
 
-/// "Targets not active are passed over", the result and the sets alike.
+/// 7.16, 7.20
 #[test]
 fn targets_that_are_not_active() {
     let mut m = fresh(3, 1);
@@ -308,7 +340,7 @@ fn targets_that_are_not_active() {
     assert_eq!((&m.records[1], &m.records[2]), (&second, &third));
 }
 
-/// "An ICR write stores the value": a self-IPI is none.
+/// 7.22, 7.23
 #[test]
 fn a_self_ipi_stores_nothing() {
     let mut m = fresh(2, 1);
@@ -317,7 +349,23 @@ fn a_self_ipi_stores_nothing() {
     assert_eq!(m.records[1].pending, set(&[0x41]));
 }
 
-/// "If the NMI mark is set and neither shadow nor NMI-blocked holds"; "Else" looks at P.
+/// 8.4, 8.5: each answer is a case of its own, and so is a refusal.
+#[test]
+fn the_answers_of_an_entry() {
+    let mut m = fresh(2, 1);
+    assert_eq!(entry(&mut m, 0, true, false, false), Ok(Shown::Nothing));
+    m.records[0].pending = set(&[0x41]);
+    assert_eq!(
+        entry(&mut m, 0, false, false, false),
+        Ok(Shown::Window(0x41))
+    );
+    assert_eq!(entry(&mut m, 0, true, false, false), presented(0x41));
+    m.records[0].nmi = true;
+    assert_eq!(entry(&mut m, 0, true, false, false), PRESENTED_NMI);
+    assert_eq!(entry(&mut m, 2, true, false, false), Err(UNKNOWN_VCPU));
+}
+
+/// 8.6, 8.7
 #[test]
 fn a_held_nmi_lets_vectors_pass() {
     let mut m = fresh(2, 1);
@@ -335,7 +383,7 @@ fn a_held_nmi_lets_vectors_pass() {
     assert_eq!(entry(&mut m, 0, false, false, false), PRESENTED_NMI);
 }
 
-/// Entry and PPR know no lower bound: "v the highest of P", "s the highest of S".
+/// 6.19, 8.10
 #[test]
 fn low_vectors_in_entry_and_ppr() {
     let mut m = fresh(2, 1);
@@ -346,8 +394,7 @@ fn low_vectors_in_entry_and_ppr() {
     assert_eq!(read(&mut m, 0, 0x80A), Ok(16));
 }
 
-/// Hand-back: "the highest of PL", but "members 31 to 255" of the other two, and bit 14 "if there
-/// are any such".
+/// 10.11
 #[test]
 fn low_vectors_in_a_hand_back() {
     let mut m = fresh(2, 1);
@@ -365,7 +412,7 @@ fn low_vectors_in_a_hand_back() {
     assert_eq!(p, after);
 }
 
-/// Non-delivery: v "joins P, and PL if it was in SL"; nothing takes it out of PL.
+/// 9.4 to 9.6
 #[test]
 fn an_item_returned_meets_a_newer_request() {
     let mut m = allowing(&[0x61]);
@@ -387,8 +434,7 @@ fn an_item_returned_meets_a_newer_request() {
     assert!(m.records[0].pending_level.is_empty());
 }
 
-/// "The five sets and the NMI mark are emptied; the phase is left": TPR, ICR and what is in
-/// flight stay.
+/// 10.13, 10.14
 #[test]
 fn what_a_hand_back_leaves() {
     let mut m = fresh(2, 3);
@@ -422,8 +468,30 @@ fn what_a_hand_back_leaves() {
     assert_eq!(m.records[1], left);
 }
 
-/// Two ways the documents differ: the EOI of a level-sensitive vector that is not allowed is not
-/// this gate's, and an edge request leaves the TMR alone.
+/// 5.17, 5.18: ECX bit 9, with bit 8 and without, and every bit above.
+#[test]
+fn call_4_has_no_form_for_all_vectors() {
+    let mut m = allowing(&[0x41]);
+    for bit in 9..32 {
+        for low in [0x000, 0x041, 0x100, 0x141] {
+            assert_eq!(call(&mut m, 0, 4, (1 << bit) + low, 0), Err(BAD_VALUE));
+        }
+    }
+    assert_eq!(m, allowing(&[0x41]));
+}
+
+/// 6.29
+#[test]
+fn a_level_vector_not_allowed_gets_no_eoi() {
+    let mut m = allowing(&[0x41]);
+    let mut p = page(&[(3, 1), (64, 0x61), (65, 0x04)]);
+    assert_eq!(notice(&mut m, 0, &mut p), Ok(0));
+    assert_eq!(m, allowing(&[0x41]));
+    assert_eq!(entry(&mut m, 0, true, false, false), Ok(Shown::Nothing));
+    assert_eq!(write(&mut m, 0, 0x80B, 0), Ok(0));
+}
+
+/// 4.27, 6.9
 #[test]
 fn the_tmr_is_pl_joined_with_sl() {
     let mut m = allowing(&[0x61, 0x82]);
@@ -433,4 +501,17 @@ fn the_tmr_is_pl_joined_with_sl() {
     notice(&mut m, 0, &mut page(&[(3, 1), (64, 0x82), (65, 0x04)])).unwrap();
     assert_eq!(read(&mut m, 0, 0x81B), Ok(2));
     assert_eq!(read(&mut m, 0, 0x81C), Ok(4));
+}
+
+/// 13.28: what is in flight in a module value may come back before any entry, and is then presented
+/// though it was neither pending there nor admitted nor sent.
+#[test]
+fn what_was_in_flight_at_first_comes_back() {
+    let mut m = fresh(2, 1);
+    m.records[0].service = set(&[0x41]);
+    m.records[0].flight = Some(Item::Vector(0x41));
+    assert_eq!(non_delivery(&mut m, 0), Ok(0));
+    assert_eq!(non_delivery(&mut m, 0), Err(NOTHING_IN_FLIGHT));
+    assert_eq!(entry(&mut m, 0, true, false, false), presented(0x41));
+    assert_eq!(entry(&mut m, 0, true, false, false), Ok(Shown::Nothing));
 }

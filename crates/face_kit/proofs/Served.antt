@@ -31,7 +31,7 @@ use Rattle.model.specs.declared.Module.{Module}
 use Rattle.model.proofs.Module.Laws as T′
 use Rattle.model.proofs.Refusal.Laws as F′
 use Rattle.vcpu.specs.Records.{servedCount}
-use Rattle.vcpu.specs.Lift.{size-le}
+use Rattle.vcpu.proofs.Lift.{size-le}
 use Rattle.face_kit.proofs.Answers.{typed-unknown}
 use Rattle.face_kit.proofs.Frame.{cell, guards, ValueContract, asks}
 use Rattle.face_kit.proofs.Lens.{n-of, vmpl-of}

@@ -19,20 +19,24 @@ use Rattle.model.specs.declared.Module.{Module}
 use Rattle.model.specs.declared.Stepped.{Stepped}
 use Rattle.model.specs.State.{isActive, isLeaving, size, vcpuAt, withVcpu, withRegistrations}
 use Rattle.model.specs.Doorbell.{longEnough, Part, partOf, admitted, noticedPage, written}
-use Rattle.model.specs.Codes.{Result, resultOf}
+use Rattle.model.specs.Codes.{accept, need, Result, resultOf}
+use Rattle.model.specs.Items.{flying}
 use Rattle.model.specs.Requests.{requestOf}
-use Rattle.model.specs.Events.{notice, call, entry, nonDelivery, handBack, offer, accept, need, vcpuVerdict, noticed, emptied, handed, handBackResult, Out, step, outOf}
-use Rattle.doorbell.specs.Served.{serves, takenPart, takenPage, served, taken-part, taken-page}
-use Rattle.handback.specs.Handed.{handedPage, handed-page}
+use Rattle.model.specs.Events.{notice, call, entry, nonDelivery, handBack, at, offer, vcpuVerdict, noticed, emptied, handed, handBackResult, Out, step, outOf}
+use Rattle.doorbell.specs.Served.{serves, takenPart, takenPage}
+use Rattle.doorbell.proofs.ServedLaws.{served, taken-part, taken-page}
+use Rattle.handback.specs.Handed.{handedPage}
+use Rattle.handback.proofs.HandedLaws.{handed-page}
 use Rattle.vcpu_pages.specs.declared.NoticeTaken.{NoticeTaken}
 use Rattle.vcpu_pages.specs.declared.HandedOver.{HandedOver}
-use Rattle.vcpu_pages.specs.Pages.{pageVerdict, takeOn, takenOut, handOn, handedOut, notice-refused, notice-accepted, hand-back-refused, hand-back-accepted}
+use Rattle.vcpu_pages.specs.Pages.{pageVerdict, takeOn, takenOut, handOn, handedOut}
+use Rattle.vcpu_pages.proofs.PagesLaws.{notice-refused, notice-accepted, hand-back-refused, hand-back-accepted}
 use Rattle.vcpu.specs.declared.VcpuStepped.{VcpuStepped}
 use Rattle.vcpu.specs.declared.VcpuEntered.{VcpuEntered}
 use Rattle.vcpu.specs.declared.VcpuCalled.{VcpuCalled}
 use Rattle.vcpu.specs.declared.VcpuSent.{VcpuSent}
-use Rattle.vcpu.specs.Records.{servedCount, VcpuOut, noticeOn, entryOn, nonDeliveryOn, handBackOn, pageOn, CallOut, callOn, sendOn, Sending, sendAt, sendBelow, steppedOut, enteredVcpu, calledOut}
-use Rattle.vcpu.specs.Lift.{size-le, onRecord, called, delivered, callStep, lift-notice, lift-entry, lift-nonDelivery, lift-handBack, lift-local, lift-send, put-same}
+use Rattle.vcpu.specs.Records.{servedCount, VcpuOut, noticeOn, entryOn, nonDeliveryOn, handBackOn, pageOn, CallOut, callOn, sendOn, Sending, sendAt, sendBelow, delivered, steppedOut, enteredVcpu, calledOut}
+use Rattle.vcpu.proofs.Lift.{size-le, onRecord, called, callStep, lift-notice, lift-entry, lift-nonDelivery, lift-handBack, lift-local, lift-send, put-same}
 
 -- ---- the count
 -- the count by which the functions test a vCPU's number
@@ -91,7 +95,7 @@ module _ (l : ℕ) (low : 1 ≤ l) (high : l ≤ 3) (v : Vcpu) (p : List ℕ) wh
   served-page : longEnough p ≡ true → serves l p ≡ true
   served-page e = served l p (leb-true 256 (length p) e) low high
 
-  same-part : noticeOn (vcpuVerdict 0 v (notice 0 p)) (takenPart l (v .allowed) p) v ≡ noticeOn (vcpuVerdict 0 v (notice 0 p)) (admitted l (v .allowed) p) v
+  same-part : noticeOn (vcpuVerdict 0 0 v (notice p)) (takenPart l (v .allowed) p) v ≡ noticeOn (vcpuVerdict 0 0 v (notice p)) (admitted l (v .allowed) p) v
   unfolding vcpuVerdict noticeOn
   same-part = pick (isActive (v .phase)) (longEnough p) refl
     where
@@ -102,7 +106,7 @@ module _ (l : ℕ) (low : 1 ≤ l) (high : l ≤ 3) (v : Vcpu) (p : List ℕ) wh
       pick true false e = refl
       pick false b e = refl
 
-  same-page : pageOn (vcpuVerdict 0 v (notice 0 p)) (takenPage l p) p ≡ pageOn (vcpuVerdict 0 v (notice 0 p)) (noticedPage l p) p
+  same-page : pageOn (vcpuVerdict 0 0 v (notice p)) (takenPage l p) p ≡ pageOn (vcpuVerdict 0 0 v (notice p)) (noticedPage l p) p
   unfolding vcpuVerdict pageOn
   same-page = pick (isActive (v .phase)) (longEnough p) refl
     where
@@ -114,7 +118,7 @@ module _ (l : ℕ) (low : 1 ≤ l) (high : l ≤ 3) (v : Vcpu) (p : List ℕ) wh
       pick false b e = refl
 
   same-handed : (q : List ℕ) (iF sh : Bool)
-      → pageOn (vcpuVerdict 0 v (handBack 0 p iF sh)) (handedPage l q p) p ≡ pageOn (vcpuVerdict 0 v (handBack 0 p iF sh)) (written l q p) p
+      → pageOn (vcpuVerdict 0 0 v (handBack p iF sh)) (handedPage l q p) p ≡ pageOn (vcpuVerdict 0 0 v (handBack p iF sh)) (written l q p) p
   unfolding vcpuVerdict pageOn
   same-handed q iF sh = pick (isLeaving (v .phase)) (longEnough p) refl
     where
@@ -126,48 +130,48 @@ module _ (l : ℕ) (low : 1 ≤ l) (high : l ≤ 3) (v : Vcpu) (p : List ℕ) wh
       pick false b e = refl
 
 -- ---- the events, by what they make of the record v of the vCPU i
-module _ (m : Module) (i : ℕ) (h : i < size m) (v : Vcpu) (at : v ≡ vcpuAt m i) where
+module _ (m : Module) (i : ℕ) (h : i < size m) (v : Vcpu) (here : v ≡ vcpuAt m i) where
   pub entered : (iF sh bl : Bool) (r : VcpuEntered)
-      → enteredVcpu r ≡ entryOn (vcpuVerdict 0 v (entry 0 iF sh bl)) (offer iF sh bl v) v
-      → onRecord m i (enteredVcpu r) [] ≡ step m (entry i iF sh bl)
+      → enteredVcpu r ≡ entryOn (vcpuVerdict 0 0 v (entry iF sh bl)) (offer iF sh bl v) v
+      → onRecord m i (enteredVcpu r) [] ≡ step m (at i (entry iF sh bl))
   entered iF sh bl r e =
       ap (λ (o : VcpuOut). onRecord m i o [])
-      (e ∙ ap (λ (u : Vcpu). entryOn (vcpuVerdict 0 u (entry 0 iF sh bl)) (offer iF sh bl u) u) at)
+      (e ∙ ap (λ (u : Vcpu). entryOn (vcpuVerdict 0 0 u (entry iF sh bl)) (offer iF sh bl u) u) here)
       ∙ sym (lift-entry m i h iF sh bl)
 
-  pub returned : (r : VcpuStepped) → steppedOut r ≡ nonDeliveryOn (vcpuVerdict 0 v (nonDelivery 0)) (v .flight) v
-      → onRecord m i (steppedOut r) [] ≡ step m (nonDelivery i)
+  pub returned : (r : VcpuStepped) → steppedOut r ≡ nonDeliveryOn (vcpuVerdict 0 0 v nonDelivery) (flying (v .flight)) v
+      → onRecord m i (steppedOut r) [] ≡ step m (at i nonDelivery)
   returned r e =
       ap (λ (o : VcpuOut). onRecord m i o [])
-      (e ∙ ap (λ (u : Vcpu). nonDeliveryOn (vcpuVerdict 0 u (nonDelivery 0)) (u .flight) u) at)
+      (e ∙ ap (λ (u : Vcpu). nonDeliveryOn (vcpuVerdict 0 0 u nonDelivery) (flying (u .flight)) u) here)
       ∙ sym (lift-nonDelivery m i h)
 
   -- a notice that gave the record and the result o, and the page q
-  noticed-on : (p q : List ℕ) (o : VcpuOut) → o ≡ noticeOn (vcpuVerdict 0 v (notice 0 p)) (takenPart (m .vmpl) (v .allowed) p) v
-      → q ≡ pageOn (vcpuVerdict 0 v (notice 0 p)) (takenPage (m .vmpl) p) p → onRecord m i o q ≡ step m (notice i p)
+  noticed-on : (p q : List ℕ) (o : VcpuOut) → o ≡ noticeOn (vcpuVerdict 0 0 v (notice p)) (takenPart (m .vmpl) (v .allowed) p) v
+      → q ≡ pageOn (vcpuVerdict 0 0 v (notice p)) (takenPage (m .vmpl) p) p → onRecord m i o q ≡ step m (at i (notice p))
   noticed-on p q o e f =
       let w = vmpl-in m i h in
       ap₂ (λ (u : VcpuOut) (y : List ℕ). onRecord m i u y)
       (e ∙ same-part (m .vmpl) (w .0) (w .1) v p
-      ∙ ap (λ (u : Vcpu). noticeOn (vcpuVerdict 0 u (notice 0 p)) (admitted (m .vmpl) (u .allowed) p) u) at)
-      (f ∙ same-page (m .vmpl) (w .0) (w .1) v p ∙ ap (λ (u : Vcpu). pageOn (vcpuVerdict 0 u (notice 0 p)) (noticedPage (m .vmpl) p) p) at)
+      ∙ ap (λ (u : Vcpu). noticeOn (vcpuVerdict 0 0 u (notice p)) (admitted (m .vmpl) (u .allowed) p) u) here)
+      (f ∙ same-page (m .vmpl) (w .0) (w .1) v p ∙ ap (λ (u : Vcpu). pageOn (vcpuVerdict 0 0 u (notice p)) (noticedPage (m .vmpl) p) p) here)
       ∙ sym (lift-notice m i h p)
 
-  handed-on : (p q : List ℕ) (iF sh : Bool) (o : VcpuOut) → o ≡ handBackOn (vcpuVerdict 0 v (handBack 0 p iF sh)) (m .vmpl) iF sh v
-      → q ≡ pageOn (vcpuVerdict 0 v (handBack 0 p iF sh)) (handedPage (m .vmpl) (handed v) p) p → onRecord m i o q ≡ step m (handBack i p iF sh)
+  handed-on : (p q : List ℕ) (iF sh : Bool) (o : VcpuOut) → o ≡ handBackOn (vcpuVerdict 0 0 v (handBack p iF sh)) (m .vmpl) iF sh v
+      → q ≡ pageOn (vcpuVerdict 0 0 v (handBack p iF sh)) (handedPage (m .vmpl) (handed v) p) p → onRecord m i o q ≡ step m (at i (handBack p iF sh))
   handed-on p q iF sh o e f =
       let w = vmpl-in m i h in
       ap₂ (λ (u : VcpuOut) (y : List ℕ). onRecord m i u y)
-      (e ∙ ap (λ (u : Vcpu). handBackOn (vcpuVerdict 0 u (handBack 0 p iF sh)) (m .vmpl) iF sh u) at)
+      (e ∙ ap (λ (u : Vcpu). handBackOn (vcpuVerdict 0 0 u (handBack p iF sh)) (m .vmpl) iF sh u) here)
       (f ∙ same-handed (m .vmpl) (w .0) (w .1) v p (handed v) iF sh
-      ∙ ap (λ (u : Vcpu). pageOn (vcpuVerdict 0 u (handBack 0 p iF sh)) (written (m .vmpl) (handed u) p) p) at)
+      ∙ ap (λ (u : Vcpu). pageOn (vcpuVerdict 0 0 u (handBack p iF sh)) (written (m .vmpl) (handed u) p) p) here)
       ∙ sym (lift-handBack m i h p iF sh)
 
   -- a refused event leaves the module: its record stored back is the module
   kept : (r : Result) (q : List ℕ) → _≡_ {A = Out} (record { result = r; after = m; page = q }) (onRecord m i (record { result = r; vcpu = v }) q)
   kept r q =
       ap (λ (g : Module). record { result = r; after = g; page = q }) (sym (put-same m i))
-      ∙ ap (λ (u : Vcpu). onRecord m i (record { result = r; vcpu = u }) q) (sym at)
+      ∙ ap (λ (u : Vcpu). onRecord m i (record { result = r; vcpu = u }) q) (sym here)
 
   -- what taking a notice says of its answer r and the page q after it
   abbrev pub Takes : List ℕ → NoticeTaken → List ℕ → Type 0
@@ -181,22 +185,22 @@ module _ (m : Module) (i : ℕ) (h : i < size m) (v : Vcpu) (at : v ≡ vcpuAt m
       × (q ≡ pageOn (pageVerdict (isLeaving (v .phase)) NotLeaving p) (handedPage (m .vmpl) (handed v) p) p)
 
   module _ (p q : List ℕ) (r : NoticeTaken) (s : Takes p r q) where
-    pub notice-kept : r .refused ≡ true → outOf (record { outcome = r .outcome; after = m }) q ≡ step m (notice i p)
+    pub notice-kept : r .refused ≡ true → outOf (record { outcome = r .outcome; after = m }) q ≡ step m (at i (notice p))
     unfolding vcpuVerdict
     notice-kept t = kept (resultOf (r .outcome)) q ∙ noticed-on p q _ (notice-refused (takenPart (m .vmpl) (v .allowed) p) v r (pageVerdict (isActive (v .phase)) NotActive p) (s .0) t) (s .1)
 
-    pub notice-taken : r .refused ≡ false → (w : Vcpu) → w ≡ noticed (partOf (r .part)) v → outOf (record { outcome = r .outcome; after = withVcpu m i w }) q ≡ step m (notice i p)
+    pub notice-taken : r .refused ≡ false → (w : Vcpu) → w ≡ noticed (partOf (r .part)) v → outOf (record { outcome = r .outcome; after = withVcpu m i w }) q ≡ step m (at i (notice p))
     unfolding vcpuVerdict
     notice-taken f w e =
         ap (λ (u : Vcpu). onRecord m i (record { result = resultOf (r .outcome); vcpu = u }) q) e
         ∙ noticed-on p q _ (notice-accepted (takenPart (m .vmpl) (v .allowed) p) v r (pageVerdict (isActive (v .phase)) NotActive p) (s .0) f) (s .1)
 
   module _ (p q : List ℕ) (iF sh : Bool) (r : HandedOver) (s : Hands p iF sh r q) where
-    pub hand-back-kept : r .refused ≡ true → outOf (record { outcome = r .outcome; after = m }) q ≡ step m (handBack i p iF sh)
+    pub hand-back-kept : r .refused ≡ true → outOf (record { outcome = r .outcome; after = m }) q ≡ step m (at i (handBack p iF sh))
     unfolding vcpuVerdict
     hand-back-kept t = kept (resultOf (r .outcome)) q ∙ handed-on p q iF sh _ (hand-back-refused (m .vmpl) iF sh v r (pageVerdict (isLeaving (v .phase)) NotLeaving p) (s .0) t) (s .1)
 
-    pub handed-back : r .refused ≡ false → (w : Vcpu) → w ≡ emptied v → outOf (record { outcome = r .outcome; after = withVcpu m i w }) q ≡ step m (handBack i p iF sh)
+    pub handed-back : r .refused ≡ false → (w : Vcpu) → w ≡ emptied v → outOf (record { outcome = r .outcome; after = withVcpu m i w }) q ≡ step m (at i (handBack p iF sh))
     unfolding vcpuVerdict
     handed-back f w e =
         ap (λ (u : Vcpu). onRecord m i (record { result = resultOf (r .outcome); vcpu = u }) q) e
@@ -204,15 +208,15 @@ module _ (m : Module) (i : ℕ) (h : i < size m) (v : Vcpu) (at : v ≡ vcpuAt m
 
   -- a call, at the count of the module
   module _ (op c x : ℕ) (whole : length (m .vcpus) ≡ 32) (r : VcpuCalled)
-      (e : calledOut r ≡ callOn (vcpuVerdict (m .registrations) v (call i op c x)) (requestOf op c x) i (m .registrations) v) where
+      (e : calledOut r ≡ callOn (vcpuVerdict i (m .registrations) v (call op c x)) (requestOf op c x) i (m .registrations) v) where
     enough : size m ≤ length (m .vcpus)
     enough = omega (arith, size-le m)
 
     step-is : calledOut r ≡ callStep m i h enough op c x
-    step-is = e ∙ ap (λ (u : Vcpu). callOn (vcpuVerdict (m .registrations) u (call i op c x)) (requestOf op c x) i (m .registrations) u) at
+    step-is = e ∙ ap (λ (u : Vcpu). callOn (vcpuVerdict i (m .registrations) u (call op c x)) (requestOf op c x) i (m .registrations) u) here
 
     pub served-call : r .sends ≡ false
-        → record { result = resultOf (r .outcome); after = called m i (calledOut r); page = [] } ≡ step m (call i op c x)
+        → record { result = resultOf (r .outcome); after = called m i (calledOut r); page = [] } ≡ step m (at i (call op c x))
     served-call z =
         ap (λ (o : CallOut). record { result = o .result; after = called m i o; page = [] }) step-is
         ∙ sym (lift-local m i h enough op c x (sym (ap (λ (o : CallOut). o .sends) step-is) ∙ z))
@@ -223,7 +227,7 @@ module _ (m : Module) (i : ℕ) (h : i < size m) (v : Vcpu) (at : v ≡ vcpuAt m
 
     pub sent-call : r .sends ≡ true → (s : Stepped)
         → outOf s [] ≡ delivered (sendBelow i x (called m i (calledOut r)) (size (called m i (calledOut r))))
-        → outOf s [] ≡ step m (call i op c x)
+        → outOf s [] ≡ step m (at i (call op c x))
     sent-call z s f =
         f ∙ ap (λ (n : ℕ). delivered (sendBelow i x (called m i (calledOut r)) n)) same-size
         ∙ ap (λ (o : CallOut). delivered (sendBelow i x (called m i o) (size m))) step-is

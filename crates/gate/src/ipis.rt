@@ -3,13 +3,12 @@ ghost use mathlib.Core.Path.{_≡_};
 ghost use mathlib.Core.List.{[]};
 ghost use Rattle.model.specs.State.{size};
 ghost use Rattle.model.specs.Events.{outOf};
-ghost use Rattle.vcpu.specs.Records.{sendBelow};
-ghost use Rattle.vcpu.specs.Lift.{delivered};
+ghost use Rattle.vcpu.specs.Records.{sendBelow, delivered};
 use model::Module;
 use model::Outcome;
 use model::Stepped;
 
-// The ICR value goes to one vCPU after the other.
+// The ICR value goes to one vCPU after the other (7.16 to 7.21).
 pub fn send(m: Module, caller: u32, value: u64) -> Stepped
     ensures { λ r. ⌜ outOf r [] ≡ delivered (sendBelow caller value m (size m)) ⌝ }
 {

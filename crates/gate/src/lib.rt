@@ -3,7 +3,7 @@ ghost use mathlib.Core.Path.{_≡_};
 ghost use mathlib.Core.List.{[]};
 ghost use Rattle.model.specs.Codes.{codeOf};
 ghost use lib.Dec.{leb};
-ghost use Rattle.model.specs.Events.{Event, step, outOf, enteredOut};
+ghost use Rattle.model.specs.Events.{Act, at, step, outOf, enteredOut};
 ghost use Rattle.vcpu.specs.Records.{servedCount};
 use model::Entered;
 use model::Module;
@@ -14,7 +14,7 @@ use model::Stepped;
 
 mod ipis;
 
-// The code of a refusal.
+// The code of a refusal (11.1 to 11.11).
 pub fn code(c: Refusal) -> u32
     ensures { λ r. ⌜ r ≡ codeOf c ⌝ }
 {
@@ -33,7 +33,7 @@ pub fn code(c: Refusal) -> u32
     }
 }
 
-// A module with this n and VMPL has no vCPU of that number.
+// A module with this n and VMPL has no vCPU of that number (2.15, 11.1).
 fn lacks(n: u32, vmpl: u32, vcpu: u32) -> bool
     ensures { λ r. ⌜ r ≡ leb (servedCount n vmpl) vcpu ⌝ }
 {
@@ -51,9 +51,9 @@ fn unknown(m: Module) -> Stepped
     }
 }
 
-// A host notice. The page after it has what was taken cleared.
+// A host notice (section 4). The page after it has what was taken cleared.
 pub fn notice(m: Module, vcpu: u32, page: &mut [u8]) -> Stepped
-    ensures { λ r. ⌜ outOf r (now (page .exit)) ≡ step m (Event.notice vcpu (now (page .entry))) ⌝ }
+    ensures { λ r. ⌜ outOf r (now (page .exit)) ≡ step m (at vcpu (Act.notice (now (page .entry)))) ⌝ }
 {
     if lacks(m.n, m.vmpl, vcpu) {
         return unknown(m);
@@ -74,9 +74,9 @@ pub fn notice(m: Module, vcpu: u32, page: &mut [u8]) -> Stepped
     Stepped { outcome, after }
 }
 
-// A guest call.
+// A guest call (sections 5 to 7).
 pub fn call(m: Module, vcpu: u32, call: u32, ecx: u32, rdx: u64) -> Stepped
-    ensures { λ r. ⌜ outOf r [] ≡ step m (Event.call vcpu call ecx rdx) ⌝ }
+    ensures { λ r. ⌜ outOf r [] ≡ step m (at vcpu (Act.call call ecx rdx)) ⌝ }
 {
     if lacks(m.n, m.vmpl, vcpu) {
         return unknown(m);
@@ -95,9 +95,9 @@ pub fn call(m: Module, vcpu: u32, call: u32, ecx: u32, rdx: u64) -> Stepped
     Stepped { outcome, after }
 }
 
-// An entry of the guest: what it is to be presented.
+// An entry of the guest: what it is to be presented (section 8).
 pub fn entry(m: Module, vcpu: u32, iflag: bool, shadow: bool, blocked: bool) -> Entered
-    ensures { λ r. ⌜ enteredOut r ≡ step m (Event.entry vcpu iflag shadow blocked) ⌝ }
+    ensures { λ r. ⌜ enteredOut r ≡ step m (at vcpu (Act.entry iflag shadow blocked)) ⌝ }
 {
     if lacks(m.n, m.vmpl, vcpu) {
         return Entered {
@@ -118,9 +118,9 @@ pub fn entry(m: Module, vcpu: u32, iflag: bool, shadow: bool, blocked: bool) -> 
     }
 }
 
-// What the latest entry presented was not delivered.
+// What the latest entry presented was not delivered (section 9).
 pub fn non_delivery(m: Module, vcpu: u32) -> Stepped
-    ensures { λ r. ⌜ outOf r [] ≡ step m (Event.nonDelivery vcpu) ⌝ }
+    ensures { λ r. ⌜ outOf r [] ≡ step m (at vcpu Act.nonDelivery) ⌝ }
 {
     if lacks(m.n, m.vmpl, vcpu) {
         return unknown(m);
@@ -135,9 +135,9 @@ pub fn non_delivery(m: Module, vcpu: u32) -> Stepped
     Stepped { outcome, after }
 }
 
-// A leaving vCPU is handed back to the host: its pending and in-service state goes to the page.
+// A leaving vCPU is handed back to the host: its pending and in-service state goes to the page (section 10).
 pub fn hand_back(m: Module, vcpu: u32, page: &mut [u8], iflag: bool, shadow: bool) -> Stepped
-    ensures { λ r. ⌜ outOf r (now (page .exit)) ≡ step m (Event.handBack vcpu (now (page .entry)) iflag shadow) ⌝ }
+    ensures { λ r. ⌜ outOf r (now (page .exit)) ≡ step m (at vcpu (Act.handBack (now (page .entry)) iflag shadow)) ⌝ }
 {
     if lacks(m.n, m.vmpl, vcpu) {
         return unknown(m);

@@ -2,7 +2,7 @@
 ghost use mathlib.Core.Path.{_≡_};
 ghost use mathlib.Core.List.{[]};
 ghost use Rattle.model.specs.State.{size};
-ghost use Rattle.model.specs.Events.{Event, step, outOf};
+ghost use Rattle.model.specs.Events.{Act, at, step, outOf};
 ghost use Rattle.vcpu.specs.Records.{sendBelow};
 use model::Module;
 use model::Outcome;
@@ -11,7 +11,7 @@ use vcpu::ipis::send_vcpu;
 use vcpu::records::served;
 use vcpu_calls::call_vcpu;
 
-// The IPI of the vCPU caller with the ICR value: each record is reached or passed over. The bits of those reached.
+// The IPI of the vCPU caller with the ICR value: each record is reached or passed over. The bits of those reached (7.16 to 7.21).
 fn send_in(m: &mut Module, caller: u32, value: u64) -> u64
     ensures { λ r. ⌜ record { mask = r; after = now (m .exit) } ≡ sendBelow caller value (now (m .entry)) (size (now (m .entry))) ⌝ }
 {
@@ -29,9 +29,9 @@ fn send_in(m: &mut Module, caller: u32, value: u64) -> u64
     mask
 }
 
-// A guest call. An IPI goes out once the caller's record and the count are stored.
+// A guest call (sections 5 to 7; 13.33). An IPI goes out once the caller's record and the count are stored.
 pub fn call_in(m: &mut Module, vcpu: u32, call: u32, ecx: u32, rdx: u64) -> Outcome
-    ensures { λ r. ⌜ outOf (record { outcome = r; after = now (m .exit) }) [] ≡ step (now (m .entry)) (Event.call vcpu call ecx rdx) ⌝ }
+    ensures { λ r. ⌜ outOf (record { outcome = r; after = now (m .exit) }) [] ≡ step (now (m .entry)) (at vcpu (Act.call call ecx rdx)) ⌝ }
 {
     let n = served(m.n, m.vmpl);
     if n <= vcpu {

@@ -1,7 +1,7 @@
 // Entry and non-delivery on a module lent by `&mut`: the record of one vCPU is copied out, stepped and stored back.
 ghost use mathlib.Core.Path.{_≡_};
 ghost use mathlib.Core.List.{[]};
-ghost use Rattle.model.specs.Events.{Event, step, outOf, enteredOut};
+ghost use Rattle.model.specs.Events.{Act, at, step, outOf, enteredOut};
 use model::Module;
 use model::Outcome;
 use model::Presentation;
@@ -10,9 +10,9 @@ use vcpu::records::served;
 use vcpu_entries::entry_vcpu;
 use vcpu_entries::non_delivery_vcpu;
 
-// An entry of the guest: what it is to be presented.
+// An entry of the guest: what it is to be presented (section 8; 13.33).
 pub fn entry_in(m: &mut Module, vcpu: u32, iflag: bool, shadow: bool, blocked: bool) -> Presentation
-    ensures { λ r. ⌜ enteredOut (record { presentation = r; after = now (m .exit) }) ≡ step (now (m .entry)) (Event.entry vcpu iflag shadow blocked) ⌝ }
+    ensures { λ r. ⌜ enteredOut (record { presentation = r; after = now (m .exit) }) ≡ step (now (m .entry)) (at vcpu (Act.entry iflag shadow blocked)) ⌝ }
 {
     let n = served(m.n, m.vmpl);
     if n <= vcpu {
@@ -25,9 +25,9 @@ pub fn entry_in(m: &mut Module, vcpu: u32, iflag: bool, shadow: bool, blocked: b
     entered.presentation
 }
 
-// What the latest entry presented was not delivered.
+// What the latest entry presented was not delivered (section 9; 13.33).
 pub fn non_delivery_in(m: &mut Module, vcpu: u32) -> Outcome
-    ensures { λ r. ⌜ outOf (record { outcome = r; after = now (m .exit) }) [] ≡ step (now (m .entry)) (Event.nonDelivery vcpu) ⌝ }
+    ensures { λ r. ⌜ outOf (record { outcome = r; after = now (m .exit) }) [] ≡ step (now (m .entry)) (at vcpu Act.nonDelivery) ⌝ }
 {
     let n = served(m.n, m.vmpl);
     if n <= vcpu {

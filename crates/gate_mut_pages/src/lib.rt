@@ -1,6 +1,6 @@
 // Notices and hand-backs on a module lent by `&mut`: the page is handled beside the step of one vCPU's record.
 ghost use mathlib.Core.Path.{_≡_};
-ghost use Rattle.model.specs.Events.{Event, step, outOf};
+ghost use Rattle.model.specs.Events.{Act, at, step, outOf};
 use model::Module;
 use model::Outcome;
 use model::Refusal;
@@ -10,9 +10,9 @@ use vcpu_pages::handbacks::empty_vcpu;
 use vcpu_pages::handbacks::hand_over;
 use vcpu_pages::notices::take;
 
-// A host notice. The page after it has what was taken cleared.
+// A host notice (section 4; 13.33). The page after it has what was taken cleared.
 pub fn notice_in(m: &mut Module, vcpu: u32, page: &mut [u8]) -> Outcome
-    ensures { λ r. ⌜ outOf (record { outcome = r; after = now (m .exit) }) (now (page .exit)) ≡ step (now (m .entry)) (Event.notice vcpu (now (page .entry))) ⌝ }
+    ensures { λ r. ⌜ outOf (record { outcome = r; after = now (m .exit) }) (now (page .exit)) ≡ step (now (m .entry)) (at vcpu (Act.notice (now (page .entry)))) ⌝ }
 {
     let n = served(m.n, m.vmpl);
     if n <= vcpu {
@@ -29,7 +29,7 @@ pub fn notice_in(m: &mut Module, vcpu: u32, page: &mut [u8]) -> Outcome
     taken.outcome
 }
 
-// A hand-back: what the vCPU has pending and in service goes to the page.
+// A hand-back: what the vCPU has pending and in service goes to the page (section 10; 13.33).
 pub fn hand_back_in(
     m: &mut Module,
     vcpu: u32,
@@ -37,7 +37,7 @@ pub fn hand_back_in(
     iflag: bool,
     shadow: bool,
 ) -> Outcome
-    ensures { λ r. ⌜ outOf (record { outcome = r; after = now (m .exit) }) (now (page .exit)) ≡ step (now (m .entry)) (Event.handBack vcpu (now (page .entry)) iflag shadow) ⌝ }
+    ensures { λ r. ⌜ outOf (record { outcome = r; after = now (m .exit) }) (now (page .exit)) ≡ step (now (m .entry)) (at vcpu (Act.handBack (now (page .entry)) iflag shadow)) ⌝ }
 {
     let n = served(m.n, m.vmpl);
     if n <= vcpu {

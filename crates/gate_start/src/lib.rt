@@ -12,7 +12,7 @@ use model::Refusal;
 use model::Stepped;
 use model::Vcpu;
 
-// A record with nothing in it.
+// A record with nothing in it (3.4).
 fn bare(phase: Phase) -> Vcpu
     ensures { λ r. ⌜ r ≡ bare phase ⌝ }
 {
@@ -31,6 +31,7 @@ fn bare(phase: Phase) -> Vcpu
     }
 }
 
+// The n and the VMPL that start takes (3.1).
 fn may_start(n: u32, vmpl: u32) -> bool
     ensures { λ r. ⌜ r ≡ mayStart n vmpl ⌝ }
 {
@@ -46,7 +47,7 @@ fn may_start(n: u32, vmpl: u32) -> bool
     vmpl <= 3
 }
 
-// n fresh records, and records of nothing behind them.
+// n fresh records, and records of nothing behind them (3.3, 2.13).
 fn started(n: u32, vmpl: u32) -> Module
     requires { ⌜ n ≤ 32 ⌝ }
     ensures { λ r. ⌜ r ≡ started n vmpl ⌝ }
@@ -68,6 +69,7 @@ fn started(n: u32, vmpl: u32) -> Module
     }
 }
 
+// The module that no event is served by (3.6).
 fn stopped() -> Module
     ensures { λ r. ⌜ r ≡ stopped ⌝ }
 {
@@ -81,7 +83,7 @@ fn stopped() -> Module
     }
 }
 
-// A module of n vCPUs for a guest at the VMPL; refused unless n is 1 to 32 and the VMPL 1 to 3.
+// A module of n vCPUs for a guest at the VMPL; refused unless n is 1 to 32 and the VMPL 1 to 3 (3.1 to 3.6).
 pub fn start(n: u32, vmpl: u32) -> Stepped
     ensures { λ r. ⌜ outOf r [] ≡ doStart n vmpl ⌝ }
 {

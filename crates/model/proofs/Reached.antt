@@ -30,7 +30,7 @@ use Rattle.model.specs.Items.{flying, mark, unmark, markAll, unmarkAll}
 use Rattle.model.specs.Doorbell.{isVector, Part, isLevel, inPart, admitted}
 use Rattle.model.specs.Registers.{kindOf, ppr, class, endedAt, ended}
 use Rattle.model.specs.Ipi.{icrVector, icrType, icrShorthand, icrIsFixed, icrIsNmi, icrFixedBits, icrLegal, icrItem, icrTarget, reached, reach, mapFrom, sent}
-use Rattle.model.specs.Requests.{registration, readBy, writeValue, writeBy, nameable, permission, requestOf, forget, leaveIf, serve}
+use Rattle.model.specs.Requests.{registration, readBy, writeValue, writeBy, mayName, nameable, permission, requestOf, forget, leaveIf, serve}
 use Rattle.model.specs.Events.{Act, notice, call, entry, nonDelivery, handBack, at, Bytes, Event, noticed, offerHighest, offer, gains, present, entered, giveBack, undelivered, emptied, verdict, Reply, gives, sends, callEffect, effect, effectOf, concluded, deliver, store, step, next, final}
 use Rattle.model.specs.Reached.{Levelled, Sound}
 use Rattle.model.specs.Demand3.{IsVector}
@@ -99,7 +99,7 @@ levelled-gains x u s t g l =
 
 -- ---- records
 -- one with nothing in flight
-at-rest : (v : Vcpu) → Words (v .allowed) → ((x : ℕ) → x < 256 → has (v .allowed) x ≡ true → (eqb x 2 || isVector x) ≡ true)
+at-rest : (v : Vcpu) → Words (v .allowed) → ((x : ℕ) → x < 256 → has (v .allowed) x ≡ true → mayName x ≡ true)
     → Levelled (v .irr) (v .«irr_level») → Levelled (v .isr) (v .«isr_level») → v .flight ≡ flight.Nothing → Sound v
 at-rest v w n p s z = record { words = w; nameable = n; irr = p; isr = s; serving = λ x e. clash (cc); settled = λ e. z }
 
@@ -139,7 +139,7 @@ Fitting local.Features = Unit {0}
 Fitting local.Leave = Unit {0}
 Fitting local.Release = Unit {0}
 Fitting local.Register = Unit {0}
-Fitting (local.Allow x) = (eqb x 2 || isVector x) ≡ true
+Fitting (local.Allow x) = mayName x ≡ true
 Fitting (local.Disallow x) = Unit {0}
 Fitting (local.Read r) = Unit {0}
 Fitting (local.SetTpr x) = Unit {0}
@@ -191,7 +191,7 @@ fitting-write kind.Both r x = fitting-value r x
 fitting-permission : (c : ℕ) → FittingRequest (permission c)
 unfolding permission FittingRequest nameable
 fitting-permission c =
-    either (nameable c) _ _ (λ e. either (bitAt c 8) _ _ (λ _. and-left (eqb (c % 256) 2 || isVector (c % 256)) (ltb c 512) e) tt) tt
+    either (nameable c) _ _ (λ e. either (bitAt c 8) _ _ (λ _. and-left (mayName (c % 256)) (ltb c 512) e) tt) tt
 
 fitting-request : (op c x : ℕ) → FittingRequest (requestOf op c x)
 unfolding requestOf registration FittingRequest
@@ -229,20 +229,20 @@ unfolding endedAt
 sound-endedAt none v z h = h
 sound-endedAt (some x) v z h = at-rest _ (h .words) (h .nameable) (h .irr) (levelled-remove x (v .isr) (v .«isr_level») (h .isr)) z
 
-named-insert : (x : ℕ) (s : List ℕ) → (eqb x 2 || isVector x) ≡ true → ((y : ℕ) → y < 256 → has s y ≡ true → (eqb y 2 || isVector y) ≡ true)
-    → (y : ℕ) → y < 256 → has (insert x s) y ≡ true → (eqb y 2 || isVector y) ≡ true
+named-insert : (x : ℕ) (s : List ℕ) → mayName x ≡ true → ((y : ℕ) → y < 256 → has s y ≡ true → mayName y ≡ true)
+    → (y : ℕ) → y < 256 → has (insert x s) y ≡ true → mayName y ≡ true
 named-insert x s q h y l e = pick (eqb y x) (has s y) refl refl (sym (has-insert x s y l) ∙ e)
   where
-    pick : (a b : Bool) → eqb y x ≡ a → has s y ≡ b → (a || b) ≡ true → (eqb y 2 || isVector y) ≡ true
+    pick : (a b : Bool) → eqb y x ≡ a → has s y ≡ b → (a || b) ≡ true → mayName y ≡ true
     pick true b p r f = rw (eqb-true y x p) q
     pick false true p r f = h y l r
     pick false false p r f = clash (cc)
 
-named-remove : (x : ℕ) (s : List ℕ) → ((y : ℕ) → y < 256 → has s y ≡ true → (eqb y 2 || isVector y) ≡ true)
-    → (y : ℕ) → y < 256 → has (remove x s) y ≡ true → (eqb y 2 || isVector y) ≡ true
+named-remove : (x : ℕ) (s : List ℕ) → ((y : ℕ) → y < 256 → has s y ≡ true → mayName y ≡ true)
+    → (y : ℕ) → y < 256 → has (remove x s) y ≡ true → mayName y ≡ true
 named-remove x s h y l e = pick (not (eqb y x)) (has s y) refl (sym (has-remove x s y l) ∙ e)
   where
-    pick : (a b : Bool) → has s y ≡ b → (a && b) ≡ true → (eqb y 2 || isVector y) ≡ true
+    pick : (a b : Bool) → has s y ≡ b → (a && b) ≡ true → mayName y ≡ true
     pick true true r f = h y l r
     pick true false r f = clash (cc)
     pick false b r f = clash (cc)
@@ -337,7 +337,7 @@ sound-undelivered (some (item.Vector x)) v q h =
     at-rest _ (h .words) (h .nameable) (levelled-gains x (v .«isr_level») (v .irr) (v .«irr_level») q (h .irr))
     (levelled-remove x (v .isr) (v .«isr_level») (h .isr)) refl
 
-none-named : (y : ℕ) → y < 256 → has empty y ≡ true → (eqb y 2 || isVector y) ≡ true
+none-named : (y : ℕ) → y < 256 → has empty y ≡ true → mayName y ≡ true
 none-named y l e = let z = has-empty y l in clash (cc)
 
 not-active : (p : Phase) → isLeaving p ≡ true → isActive p ≡ false

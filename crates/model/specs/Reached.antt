@@ -1,14 +1,13 @@
 -- What holds of every record of a module that events reach from what start gives (section 13).
 -- Assumes nothing.
 use mathlib.Core.Path.{_≡_}
-use mathlib.Core.Bool.{true, false, _||_}
+use mathlib.Core.Bool.{true, false}
 use mathlib.Core.List.{List}
 use Prim.Native.Nat.{ℕ, _<_}
-use lib.Dec.{eqb}
 use Rattle.model.specs.declared.InFlight.the-variants as flight
 use Rattle.model.specs.declared.Vcpu.{Vcpu}
 use Rattle.model.specs.State.{isActive}
-use Rattle.model.specs.Doorbell.{isVector}
+use Rattle.model.specs.Requests.{mayName}
 use Rattle.vector_set.specs.Sets.{Words, has}
 
 -- a set of vectors 31 to 255 and its level-sensitive part; eight words of 32 bits have no member above 255 (13.13)
@@ -22,7 +21,7 @@ pub record Levelled (s t : List ℕ) : Type 0 where
 pub record Sound (v : Vcpu) : Type 0 where
   -- A holds 2 and 31 to 255 alone
   pub words : Words (v .allowed)
-  pub nameable : (x : ℕ) → x < 256 → has (v .allowed) x ≡ true → (eqb x 2 || isVector x) ≡ true
+  pub nameable : (x : ℕ) → x < 256 → has (v .allowed) x ≡ true → mayName x ≡ true
   pub irr : Levelled (v .irr) (v .«irr_level»)
   pub isr : Levelled (v .isr) (v .«isr_level»)
   -- a vector in flight is in service

@@ -55,9 +55,13 @@ writeBy kind.Read r x = bad
 writeBy kind.Write r x = writeValue r x
 writeBy kind.Both r x = writeValue r x
 
+-- a member that an allowed set may have: the NMI's, or a vector (5.17)
+abbrev pub mayName : ℕ → Bool
+mayName x = eqb x 2 || isVector x
+
 -- ECX of call 4 is within the rule (5.17, 5.18)
 unfoldable pub nameable : ℕ → Bool
-nameable c = (eqb (c % 256) 2 || isVector (c % 256)) && ltb c 512
+nameable c = mayName (c % 256) && ltb c 512
 
 -- call 4, by ECX (5.15, 5.16)
 unfoldable pub permission : ℕ → Request

@@ -19,11 +19,11 @@ or-true true = refl
 or-true false = refl
 
 -- with no level-sensitive vector
-pub edges-only : (s t : List ℕ) → union s t ≡ collect (λ v. has s v || has t v || isLevel none v)
+pub edges-only : (s t : List ℕ) → union s t ≡ collect (λ v. has s v || (has t v || isLevel none v))
 unfolding union
 edges-only s t = collect-ext _ _ (λ v l. go (has s v) (has t v))
   where
-    go : (a b : Bool) → (a || b) ≡ (a || b || false)
+    go : (a b : Bool) → (a || b) ≡ (a || (b || false))
     go true b = refl
     go false b = or-false b
 
@@ -31,14 +31,13 @@ pub no-level : (s : List ℕ) → Words s → s ≡ collect (λ v. has s v || is
 no-level s w = collect-is _ s w (λ v l. or-false (has s v))
 
 -- with the level-sensitive vector x
-pub edges-level : (x : ℕ) (s t : List ℕ) → insert x (union s t) ≡ collect (λ v. has s v || has t v || isLevel (some x) v)
+pub edges-level : (x : ℕ) (s t : List ℕ) → insert x (union s t) ≡ collect (λ v. has s v || (has t v || isLevel (some x) v))
 unfolding insert
 edges-level x s t = collect-ext _ _ (λ v l. rw (has-union s t v l) (go (eqb v x) (has s v) (has t v)))
   where
-    go : (a b c : Bool) → (a || (b || c)) ≡ (b || c || a)
+    go : (a b c : Bool) → (a || (b || c)) ≡ (b || (c || a))
     go true true c = refl
-    go true false true = refl
-    go true false false = refl
+    go true false c = or-true c
     go false true c = refl
     go false false c = or-false c
 

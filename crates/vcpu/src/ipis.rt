@@ -12,7 +12,7 @@ fn passed_over(v: Vcpu, mask: u64) -> VcpuSent
     VcpuSent { mask, vcpu: v }
 }
 
-// The record of the vCPU k, when the vCPU caller sends an ICR value; k is reached if it is an active target.
+// The record of the vCPU k, when the vCPU caller sends an ICR value; k is reached if it is an active target (7.16 to 7.20).
 pub fn send_vcpu(v: Vcpu, caller: u32, k: u32, value: u64, mask: u64) -> VcpuSent
     ensures { λ r. ⌜ r ≡ sendOn caller k value mask v ⌝ }
 {

@@ -4,16 +4,16 @@ ghost use mathlib.Core.Bool.{_||_};
 ghost use Rattle.vector_set.specs.Sets.{union};
 ghost use Rattle.model.specs.State.{withIrr, withNmi};
 ghost use Rattle.model.specs.Doorbell.{partOf};
-ghost use Rattle.model.specs.Ipi.{post};
+ghost use Rattle.model.specs.Items.{mark};
 ghost use Rattle.model.specs.Events.{noticed};
 use model::Admitted;
 use model::Item;
 use model::Vcpu;
 use vector_set::Found;
 
-// The item is pending; a vector as edge, its level mark untouched.
+// The item is pending; a vector as edge, its level mark untouched (4.27, 7.17).
 pub fn post_item(v: Vcpu, item: Item) -> Vcpu
-    ensures { λ r. ⌜ r ≡ post item v ⌝ }
+    ensures { λ r. ⌜ r ≡ mark item v ⌝ }
 {
     let mut w = v;
     match item {
@@ -44,7 +44,7 @@ fn add_edges(v: Vcpu, nmi: bool, edge: [u32; 8]) -> Vcpu
     w
 }
 
-// The record with what a notice admitted.
+// The record with what a notice admitted (4.25 to 4.28).
 pub fn notice_vcpu(v: Vcpu, a: Admitted) -> Vcpu
     ensures { λ r. ⌜ r ≡ noticed (partOf a) v ⌝ }
 {

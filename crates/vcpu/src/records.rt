@@ -9,7 +9,7 @@ use model::Phase;
 use model::Refusal;
 use model::Vcpu;
 
-// The count n that a module is answered with: 0 where n or the VMPL is out of range.
+// The count n that a module is answered with: 0 where n or the VMPL is out of range (2.15).
 pub fn served(n: u32, vmpl: u32) -> u32
     ensures { λ r. ⌜ r ≡ servedCount n vmpl ⌝ }
 {
@@ -61,7 +61,7 @@ pub fn with_phase(v: Vcpu, phase: Phase) -> Vcpu
     written_anew(v, phase, flight)
 }
 
-// A refused event leaves the record as it was.
+// A refused event leaves the record as it was (11.19).
 pub fn refused(vcpu: Vcpu, c: Refusal) -> VcpuStepped
     ensures { λ r. ⌜ r ≡ record { outcome = Outcome.Refused c; vcpu = vcpu } ⌝ }
 {

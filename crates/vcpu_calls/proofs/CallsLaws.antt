@@ -3,7 +3,7 @@
 use mathlib.Core.Path.{_≡_, refl, sym, ap, _∙_}
 use mathlib.Core.Bool.{Bool, false, cond}
 use mathlib.Core.List.{List}
-use mathlib.Core.Option.{Option, none, some}
+use mathlib.Core.Option.{Option}
 use Prim.Native.Nat.{ℕ}
 use Rattle.vector_set.specs.declared.Found.{Found}
 use Rattle.vector_set.specs.declared.Found.the-variants.{Vector, Nothing}
@@ -19,40 +19,40 @@ use Rattle.model.specs.declared.Request.the-variants as request
 use Rattle.model.specs.declared.Vcpu.{Vcpu}
 use Rattle.model.specs.State.{isActive, withIsr, withIsrLevel}
 use Rattle.model.specs.Registers.{ended, endedAt, endedLevel, endedLevelAt}
-use Rattle.model.specs.Requests.{Served, forget, serve, requestOf}
-use Rattle.model.specs.Events.{call, Verdict, accept, refuse, need, mayServe, mayCall, vcpuVerdict}
+use Rattle.model.specs.Codes.{Verdict, accept, refuse, need}
+use Rattle.model.specs.Requests.{Served, forget, always, serve, requestOf, callVerdict}
+use Rattle.model.specs.Events.{call, vcpuVerdict}
 use Rattle.vcpu.specs.declared.VcpuCalled.{VcpuCalled}
 use Rattle.vcpu_calls.specs.declared.Ended.{Ended}
 use Rattle.vcpu.specs.Records.{CallOut, callOn, calledOut}
 
--- what a call gives, its parts in the order: number, record, count
-abbrev pub serving : ℕ → Vcpu → ℕ → Served
-serving x w j = record { value = x; vcpu = w; registrations = j }
+-- what an accepted or a refused `o` of the vCPU i at the count k gives the record v
+abbrev pub asServed : Local → ℕ → ℕ → Vcpu → CallOut
+asServed o i k v = callOn (serve o i k (forget v) .verdict) (request.Local o) i k v
 
 -- an accepted call p that sends nothing: the answer r gives what `serve` says
-pub served-as : (o p : Local) (i k x j : ℕ) (v w : Vcpu) (r : VcpuCalled) → o ≡ p → mayServe k p ≡ accept
+pub served-as : (o p : Local) (i k x j : ℕ) (v w : Vcpu) (r : VcpuCalled) → o ≡ p
     → r ≡ record { outcome = outcome.Done x; vcpu = w; registrations = j; sends = false }
-    → serving x w j ≡ serve p i k (forget v)
-    → calledOut r ≡ callOn (mayServe k o) (request.Local o) i k v
+    → always x w j ≡ serve p i k (forget v)
+    → calledOut r ≡ asServed o i k v
 unfolding callOn
-served-as o p i k x j v w r told may gave served =
+served-as o p i k x j v w r told gave served =
     ap calledOut gave
     ∙ ap out served
-    ∙ sym (ap (λ (g : Verdict). callOn g (request.Local p) i k v) may)
-    ∙ sym (ap (λ (q : Local). callOn (mayServe k q) (request.Local q) i k v) told)
+    ∙ ap (λ (s : Served). callOn (s .verdict) (request.Local p) i k v) served
+    ∙ sym (ap (λ (q : Local). asServed q i k v) told)
   where
     out : Served → CallOut
     out s = calledOut (record { outcome = outcome.Done (s .value); vcpu = s .vcpu; registrations = s .registrations; sends = false })
 
 -- a registration does not depend on which vCPU asks for it
 pub registered-as : (o : Local) (i k : ℕ) (v : Vcpu) (r : VcpuCalled) → o ≡ local.Register
-    → calledOut r ≡ callOn (mayServe k local.Register) (request.Local local.Register) 0 k v
-    → calledOut r ≡ callOn (mayServe k o) (request.Local o) i k v
+    → calledOut r ≡ asServed local.Register 0 k v → calledOut r ≡ asServed o i k v
 unfolding callOn serve
 registered-as o i k v r told gave =
     gave
-    ∙ go (mayServe k local.Register)
-    ∙ sym (ap (λ (q : Local). callOn (mayServe k q) (request.Local q) i k v) told)
+    ∙ go (serve local.Register 0 k (forget v) .verdict)
+    ∙ sym (ap (λ (q : Local). asServed q i k v) told)
   where
     go : (g : Verdict) → callOn g (request.Local local.Register) 0 k v ≡ callOn g (request.Local local.Register) i k v
     go accept = refl
@@ -61,12 +61,12 @@ registered-as o i k v r told gave =
 -- ---- what a call's numbers ask for, on the vCPU i with the record v at the count k
 module _ (i k op ecx rdx : ℕ) (v : Vcpu) where
   abbrev out : Phase → Request → CallOut
-  out p q = callOn (need (isActive p) NotActive (mayCall k q)) q i k v
+  out p q = callOn (need (isActive p) NotActive (callVerdict q i k (forget v))) q i k v
 
   -- the vCPU is active, and the request q is p
   pub asked : (q p : Request) (r : VcpuCalled) → v .phase ≡ Active → q ≡ requestOf op ecx rdx → q ≡ p
-      → calledOut r ≡ callOn (mayCall k p) p i k v
-      → calledOut r ≡ callOn (vcpuVerdict k v (call i op ecx rdx)) (requestOf op ecx rdx) i k v
+      → calledOut r ≡ callOn (callVerdict p i k (forget v)) p i k v
+      → calledOut r ≡ callOn (vcpuVerdict i k v (call op ecx rdx)) (requestOf op ecx rdx) i k v
   unfolding vcpuVerdict
   asked q p r active request told gave =
       gave
@@ -75,7 +75,7 @@ module _ (i k op ecx rdx : ℕ) (v : Vcpu) where
 
   pub not-asked : (r : VcpuCalled) → isActive (v .phase) ≡ false
       → r ≡ record { outcome = outcome.Refused NotActive; vcpu = v; registrations = k; sends = false }
-      → calledOut r ≡ callOn (vcpuVerdict k v (call i op ecx rdx)) (requestOf op ecx rdx) i k v
+      → calledOut r ≡ callOn (vcpuVerdict i k v (call op ecx rdx)) (requestOf op ecx rdx) i k v
   unfolding vcpuVerdict callOn
   not-asked r inactive gave = rw inactive (ap calledOut gave)
 

@@ -7,8 +7,9 @@ ghost use Rattle.vector_set.specs.Bits.{bits};
 ghost use Rattle.vector_set.specs.Sets.{insert, remove};
 ghost use Rattle.model.specs.State.{withAllowed, withTpr};
 ghost use Rattle.model.specs.Registers.{ended, endedLevel};
-ghost use Rattle.model.specs.Requests.{forget, leaveIf, requestOf};
-ghost use Rattle.model.specs.Events.{Event, Verdict, accept, mayServe, vcpuVerdict};
+ghost use Rattle.model.specs.Codes.{accept};
+ghost use Rattle.model.specs.Requests.{forget, leaveIf, requestOf, serve};
+ghost use Rattle.model.specs.Events.{Act, vcpuVerdict};
 ghost use Rattle.vcpu.specs.Records.{callOn, calledOut};
 use model::InFlight;
 use model::Item;
@@ -52,7 +53,7 @@ pub struct Ended {
     pub vcpu: Vcpu,
 }
 
-// The highest vector in service ends; the value names it if it was level-sensitive.
+// The highest vector in service ends; the value names it if it was level-sensitive (6.25 to 6.28).
 fn end_vcpu(v: Vcpu) -> Ended
     ensures { λ r. ⌜ r ≡ record { value = endedLevel v; vcpu = ended v } ⌝ }
 {
@@ -75,6 +76,7 @@ fn end_vcpu(v: Vcpu) -> Ended
     Ended { value: 0, vcpu: w }
 }
 
+// The vCPU is leaving where the count is 0 (5.8).
 fn leave_at(v: Vcpu, registrations: u8) -> Vcpu
     ensures { λ r. ⌜ r ≡ leaveIf (eqb registrations 0) v ⌝ }
 {
@@ -84,7 +86,7 @@ fn leave_at(v: Vcpu, registrations: u8) -> Vcpu
     v
 }
 
-// One registration less; none less than 0.
+// One registration less; none less than 0 (5.9, 5.10).
 fn released(registrations: u8) -> u8
     ensures { λ r. ⌜ r ≡ registrations - 1 ⌝ }
 {
@@ -94,9 +96,9 @@ fn released(registrations: u8) -> u8
     registrations - 1
 }
 
-// One registration more, where there is at least one and there are at most 254.
+// One registration more, where there is at least one and there are at most 254 (5.11, 5.12).
 fn register(v: Vcpu, registrations: u8) -> VcpuCalled
-    ensures { λ r. ⌜ calledOut r ≡ callOn (mayServe registrations Local.Register) (Request.Local Local.Register) 0 registrations v ⌝ }
+    ensures { λ r. ⌜ calledOut r ≡ callOn (serve Local.Register 0 registrations (forget v) .verdict) (Request.Local Local.Register) 0 registrations v ⌝ }
 {
     if registrations == 0 {
         return refused(Refusal::NotRegistered, v, registrations);
@@ -111,6 +113,7 @@ fn register(v: Vcpu, registrations: u8) -> VcpuCalled
     )
 }
 
+// The vector is allowed, or no longer (5.16, 5.19).
 fn permit(v: Vcpu, x: u8, allow: bool) -> Vcpu
     ensures { λ r. ⌜ r ≡ withAllowed (cond allow (insert x (v .allowed)) (remove x (v .allowed))) v ⌝ }
 {
@@ -126,7 +129,7 @@ fn permit(v: Vcpu, x: u8, allow: bool) -> Vcpu
     w
 }
 
-// The bit of a vCPU in the result of an IPI.
+// The bit of a vCPU in the result of an IPI (7.20, 7.22).
 fn bit_of(id: u32) -> u64
     ensures { λ r. ⌜ r ≡ bits (λ j. eqb j id) 0 32 ⌝ }
 {
@@ -144,9 +147,9 @@ fn set_tpr(v: Vcpu, x: u8) -> Vcpu
     w
 }
 
-// A call that touches the caller's record and the count alone.
+// A call that touches the caller's record and the count alone. What was in flight is forgotten first (5.3).
 fn serve_local(v: Vcpu, id: u32, registrations: u8, o: Local) -> VcpuCalled
-    ensures { λ r. ⌜ calledOut r ≡ callOn (mayServe registrations o) (Request.Local o) id registrations v ⌝ }
+    ensures { λ r. ⌜ calledOut r ≡ callOn (serve o id registrations (forget v) .verdict) (Request.Local o) id registrations v ⌝ }
 {
     let w = records::with_flight(v, InFlight::Nothing);
     match o {
@@ -174,7 +177,7 @@ fn serve_local(v: Vcpu, id: u32, registrations: u8, o: Local) -> VcpuCalled
     }
 }
 
-// The value of an ICR write is stored; whom it reaches is the module's to say.
+// The value of an ICR write is stored (7.19); whom it reaches is the module's to say.
 fn store_icr(v: Vcpu, registrations: u8, x: u64) -> VcpuCalled
     ensures { λ r. ⌜ calledOut r ≡ callOn accept (Request.Icr x) 0 registrations v ⌝ }
 {
@@ -188,9 +191,9 @@ fn store_icr(v: Vcpu, registrations: u8, x: u64) -> VcpuCalled
     }
 }
 
-// A guest call of the vCPU id.
+// A guest call of the vCPU id (section 5).
 pub fn call_vcpu(v: Vcpu, id: u32, registrations: u8, call: u32, ecx: u32, rdx: u64) -> VcpuCalled
-    ensures { λ r. ⌜ calledOut r ≡ callOn (vcpuVerdict registrations v (Event.call id call ecx rdx)) (requestOf call ecx rdx) id registrations v ⌝ }
+    ensures { λ r. ⌜ calledOut r ≡ callOn (vcpuVerdict id registrations v (Act.call call ecx rdx)) (requestOf call ecx rdx) id registrations v ⌝ }
 {
     let phase = v.phase;
     let Phase::Active = phase else {

@@ -1,11 +1,15 @@
 // Entry and non-delivery on one record.
 ghost use mathlib.Core.Path.{_≡_};
-ghost use Rattle.model.specs.Codes.{presentedResult};
+ghost use mathlib.Core.Option.{some};
+ghost use Rattle.model.specs.Codes.{Answer, Result, presentedResult};
+ghost use Rattle.model.specs.Items.{flying};
+ghost use Rattle.model.specs.Requests.{forget};
 ghost use Rattle.vector_set.specs.Sets.{highest};
 ghost use Rattle.model.specs.Registers.{ppr};
-ghost use Rattle.model.specs.Events.{Event, offerHighest, offer, offered, present, giveBack, gains, vcpuVerdict};
+ghost use Rattle.model.specs.Events.{Act, offerHighest, offer, entered, undelivered, gains, vcpuVerdict};
 ghost use Rattle.vcpu.specs.Records.{entryOn, nonDeliveryOn, steppedOut, enteredVcpu};
 use model::InFlight;
+use model::Item;
 use model::Outcome;
 use model::Phase;
 use model::Presentation;
@@ -26,9 +30,9 @@ fn gain(x: u8, s: [u32; 8], t: [u32; 8]) -> [u32; 8]
     t
 }
 
-// The highest pending vector, where it is above the processor priority.
+// The highest pending vector, where it is above the processor priority (8.8 to 8.13).
 fn offer_vector(v: Vcpu, ready: bool) -> Presentation
-    ensures { λ r. ⌜ presentedResult r ≡ offered (offerHighest ready (ppr v) (highest (v .irr))) ⌝ }
+    ensures { λ r. ⌜ presentedResult r ≡ Result.answers (offerHighest ready (ppr v) (highest (v .irr))) ⌝ }
 {
     let irr = v.irr;
     let isr = v.isr;
@@ -45,9 +49,9 @@ fn offer_vector(v: Vcpu, ready: bool) -> Presentation
     Presentation::Window(x)
 }
 
-// What an entry offers the guest.
+// What an entry offers the guest (8.6 to 8.13).
 fn offer_of(v: Vcpu, iflag: bool, shadow: bool, blocked: bool) -> Presentation
-    ensures { λ r. ⌜ presentedResult r ≡ offered (offer iflag shadow blocked v) ⌝ }
+    ensures { λ r. ⌜ presentedResult r ≡ Result.answers (offer iflag shadow blocked v) ⌝ }
 {
     if shadow {
         return offer_vector(v, false);
@@ -61,17 +65,18 @@ fn offer_of(v: Vcpu, iflag: bool, shadow: bool, blocked: bool) -> Presentation
     offer_vector(v, iflag)
 }
 
+// The NMI is marked no more, and is in flight (8.6, 8.14).
 fn present_nmi(v: Vcpu) -> Vcpu
-    ensures { λ r. ⌜ r ≡ present InFlight.Nmi v ⌝ }
+    ensures { λ r. ⌜ r ≡ entered (Answer.presents Item.Nmi) (forget v) ⌝ }
 {
     let mut w = v;
     w.nmi = false;
     records::with_flight(w, InFlight::Nmi)
 }
 
-// The vector moves from the IRR to the ISR, its level mark with it.
+// The vector moves from the IRR to the ISR, its level mark with it, and is in flight (8.11, 8.12, 8.14).
 fn present_vector(v: Vcpu, x: u8) -> Vcpu
-    ensures { λ r. ⌜ r ≡ present (InFlight.Vector x) v ⌝ }
+    ensures { λ r. ⌜ r ≡ entered (Answer.presents (Item.Vector x)) (forget v) ⌝ }
 {
     let irr = v.irr;
     let isr = v.isr;
@@ -89,8 +94,9 @@ fn present_vector(v: Vcpu, x: u8) -> Vcpu
     records::with_flight(w, InFlight::Vector(x))
 }
 
+// An entry on one record: what was in flight is forgotten, and what is presented is in flight (8.2 to 8.14).
 pub fn entry_vcpu(v: Vcpu, iflag: bool, shadow: bool, blocked: bool) -> VcpuEntered
-    ensures { λ r. ⌜ enteredVcpu r ≡ entryOn (vcpuVerdict 0 v (Event.entry 0 iflag shadow blocked)) (offer iflag shadow blocked v) v ⌝ }
+    ensures { λ r. ⌜ enteredVcpu r ≡ entryOn (vcpuVerdict 0 0 v (Act.entry iflag shadow blocked)) (offer iflag shadow blocked v) v ⌝ }
 {
     let phase = v.phase;
     let Phase::Active = phase else {
@@ -108,9 +114,9 @@ pub fn entry_vcpu(v: Vcpu, iflag: bool, shadow: bool, blocked: bool) -> VcpuEnte
     VcpuEntered { presentation, vcpu }
 }
 
-// The vector moves back from the ISR to the IRR, its level mark with it.
+// The vector moves back from the ISR to the IRR, its level mark with it (9.4 to 9.7).
 fn return_vector(v: Vcpu, x: u8) -> Vcpu
-    ensures { λ r. ⌜ r ≡ giveBack (InFlight.Vector x) v ⌝ }
+    ensures { λ r. ⌜ r ≡ undelivered (some (Item.Vector x)) v ⌝ }
 {
     let irr = v.irr;
     let isr = v.isr;
@@ -128,8 +134,9 @@ fn return_vector(v: Vcpu, x: u8) -> Vcpu
     records::with_flight(w, InFlight::Nothing)
 }
 
+// The NMI is marked again (9.3, 9.7).
 fn return_nmi(v: Vcpu) -> Vcpu
-    ensures { λ r. ⌜ r ≡ giveBack InFlight.Nmi v ⌝ }
+    ensures { λ r. ⌜ r ≡ undelivered (some Item.Nmi) v ⌝ }
 {
     let mut w = v;
     w.nmi = true;
@@ -143,8 +150,9 @@ fn returned(vcpu: Vcpu) -> VcpuStepped
     VcpuStepped { outcome, vcpu }
 }
 
+// A non-delivery on one record: what was in flight is pending again (9.2 to 9.7).
 pub fn non_delivery_vcpu(v: Vcpu) -> VcpuStepped
-    ensures { λ r. ⌜ steppedOut r ≡ nonDeliveryOn (vcpuVerdict 0 v (Event.nonDelivery 0)) (v .flight) v ⌝ }
+    ensures { λ r. ⌜ steppedOut r ≡ nonDeliveryOn (vcpuVerdict 0 0 v Act.nonDelivery) (flying (v .flight)) v ⌝ }
 {
     let phase = v.phase;
     let Phase::Active = phase else {

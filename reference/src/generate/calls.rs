@@ -174,7 +174,7 @@ impl Generator {
         self.left += self.queue.len();
     }
 
-    /// Call 0 with any ECX, and calls above 4.
+    /// Call 0 with any ECX (5.5), and numbers that are no call (11.7).
     pub(super) fn odd_call(&mut self, vcpu: u32) -> Event {
         let r = &mut self.random;
         let call = r.pick(&[0, 0, 0, 5, 5, 6, 255, 256, 257, 260, 0x1_0004, u32::MAX]);
@@ -237,7 +237,7 @@ impl Generator {
         }
     }
 
-    /// One rule of the ICR broken.
+    /// A value that is not legal (7.11).
     fn broken(&mut self, value: u64) -> u64 {
         let r = &mut self.random;
         let kind = r.pick(&[1, 2, 3, 5, 6, 7]);

@@ -1,4 +1,4 @@
-//! Seeded traces that lean toward the corners of document 01.
+//! Seeded traces that lean toward the corners of `docs/SPECIFICATION.md`.
 //!
 //! The generator plays what it generates, so that it can aim: at vectors that are allowed, pending
 //! or in service, at vCPUs that are leaving, at what is in flight. A trace is a row of lists, each

@@ -49,7 +49,7 @@ impl Generator {
         }
     }
 
-    /// Bits 0 to 30 of the descriptor.
+    /// The descriptor's bits 30:0.
     fn low_bits(&mut self, page: &mut [u8], vmpl: u32, vcpu: u32) {
         let start = descriptor(vmpl);
         page[start] = self.vector(vcpu) as u8;
@@ -67,7 +67,7 @@ impl Generator {
         }
     }
 
-    /// Bits 31 to 255 of the descriptor, with bit 14 mostly, without it sometimes.
+    /// Marks (4.13), seldom where bit 14 is clear.
     fn marks(&mut self, page: &mut [u8], vmpl: u32, vcpu: u32) {
         let start = descriptor(vmpl);
         let many = page[start + 1] >= 64;

@@ -3,8 +3,8 @@ use mathlib.Core.Path.{sym}
 use Prim.Native.Nat.{_<_}
 use borrow.Author.Needs.{needs}
 use Rattle.model.specs.State.{size, withVcpu}
-use Rattle.model.specs.Events.{entry}
-use Rattle.vcpu.specs.Lift.{unknown}
+use Rattle.model.specs.Events.{entry, at}
+use Rattle.vcpu.proofs.Lift.{unknown}
 use Rattle.gate.proofs.Steps.{known, not-known, below-32, records-32, record-is, entered}
 use Rattle.gate.proofs.entry.Statement.{statement}
 use Rattle.gate.proofs.entry.Tie as tie
@@ -19,7 +19,7 @@ here c =
 returns : tie.Need-returns
 returns c =
     let a = c .before .before .args in
-    sym (unknown (a .t1) (entry (a .vcpu) (a .iflag) (a .shadow) (a .blocked)) (not-known (a .t1) (a .vcpu) (c .before .lacks .ensures) (c .if1 .taken)))
+    sym (unknown (a .t1) (at (a .vcpu) (entry (a .iflag) (a .shadow) (a .blocked))) (not-known (a .t1) (a .vcpu) (c .before .lacks .ensures) (c .if1 .taken)))
 
 returns-2 : tie.Need-returns-2
 unfolding withVcpu

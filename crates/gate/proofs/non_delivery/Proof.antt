@@ -5,8 +5,8 @@ use Prim.Native.Nat.{_<_}
 use borrow.Author.Needs.{needs}
 use Rattle.model.specs.declared.Stepped.{Stepped}
 use Rattle.model.specs.State.{size, withVcpu}
-use Rattle.model.specs.Events.{nonDelivery, outOf}
-use Rattle.vcpu.specs.Lift.{unknown}
+use Rattle.model.specs.Events.{nonDelivery, at, outOf}
+use Rattle.vcpu.proofs.Lift.{unknown}
 use Rattle.gate.proofs.Steps.{known, not-known, below-32, records-32, record-is, returned}
 use Rattle.gate.proofs.non_delivery.Statement.{statement}
 use Rattle.gate.proofs.non_delivery.Tie as tie
@@ -22,7 +22,7 @@ returns : tie.Need-returns
 returns c =
     let a = c .before .before .before .args in
     ap (λ (r : Stepped). outOf r []) (c .unknown .ensures)
-    ∙ sym (unknown (a .t1) (nonDelivery (a .vcpu)) (not-known (a .t1) (a .vcpu) (c .before .before .lacks .ensures) (c .before .if1 .taken)))
+    ∙ sym (unknown (a .t1) (at (a .vcpu) nonDelivery) (not-known (a .t1) (a .vcpu) (c .before .before .lacks .ensures) (c .before .if1 .taken)))
 
 returns-2 : tie.Need-returns-2
 unfolding withVcpu

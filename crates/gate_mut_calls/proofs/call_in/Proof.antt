@@ -8,7 +8,7 @@ use types.Kit.{move}
 use denote.Struct.Laws as LL
 use Rattle.model.specs.declared.Vcpu.{Vcpu}
 use Rattle.model.specs.State.{size, vcpuAt, withVcpu, withRegistrations}
-use Rattle.model.specs.Events.{call, vcpuVerdict, step, outOf}
+use Rattle.model.specs.Events.{call, at, vcpuVerdict, step, outOf}
 use Rattle.model.specs.Requests.{requestOf}
 use lib.ListN.{length}
 use Rattle.model.specs.declared.Module.{Module}
@@ -20,8 +20,8 @@ use Rattle.model.proofs.Module.Laws as T′
 use Rattle.model.proofs.Vcpu as R
 use Rattle.model.proofs.Vcpu.Laws as R′
 use Rattle.model.proofs.Outcome as O
-use Rattle.vcpu.specs.Records.{callOn, calledOut, Sending, sendBelow}
-use Rattle.vcpu.specs.Lift.{unknown, delivered}
+use Rattle.vcpu.specs.Records.{callOn, calledOut, Sending, sendBelow, delivered}
+use Rattle.vcpu.proofs.Lift.{unknown}
 use Rattle.gate.proofs.Steps.{records-32, served-call, sent-call}
 use Rattle.vcpu.specs.declared.VcpuCalled.{VcpuCalled}
 use Rattle.vcpu.proofs.VcpuCalled as S
@@ -49,7 +49,7 @@ use Rattle.gate_mut_calls.proofs.call_in.Code as code
 
 -- what the call's step of the record and of the count answers
 abbrev Answer : Vcpu → ℕ → ℕ → ℕ → ℕ → ℕ → VcpuCalled → Type 0
-Answer v i c x y z r = calledOut r ≡ callOn (vcpuVerdict c v (call i x y z)) (requestOf x y z) i c v
+Answer v i c x y z r = calledOut r ≡ callOn (vcpuVerdict i c v (call x y z)) (requestOf x y z) i c v
 
 -- what the IPI's loop answers
 abbrev Sends : Module → ℕ → ℕ → ℕ → Module → Type 0
@@ -61,10 +61,10 @@ stored h i r = withRegistrations (r .registrations) (withVcpu h i (r .vcpu))
 
 -- what the contract says, and that it holds at each way out
 abbrev Says : Module → ℕ → ℕ → ℕ → ℕ → Outcome → Module → Type 0
-Says h i x y z r h′ = outOf (record { outcome = r; after = h′ }) [] ≡ step h (call i x y z)
+Says h i x y z r h′ = outOf (record { outcome = r; after = h′ }) [] ≡ step h (at i (call x y z))
 
 refuses : (h : Module) (i x y z : ℕ) → size h ≤ i → Says h i x y z (Refused UnknownVcpu) h
-refuses h i x y z over = sym (unknown h (call i x y z) over)
+refuses h i x y z over = sym (unknown h (at i (call x y z)) over)
 
 -- the order of `Served.antt` and `Record.antt`, and back: of the locals, the caller's record after the step is behind them, then the parameters and the others
 abbrev to-head : List ℕ

@@ -8,7 +8,7 @@ use denote.Signature.{Slot}
 use denote.Struct.Laws as LL
 use types.Kit.{move}
 use Rattle.model.specs.State.{size, vcpuAt, withVcpu}
-use Rattle.model.specs.Events.{entry, offer, vcpuVerdict, step, enteredOut}
+use Rattle.model.specs.Events.{entry, at, offer, vcpuVerdict, step, enteredOut}
 use Rattle.model.specs.declared.Vcpu.{Vcpu}
 use Rattle.model.specs.declared.Module.{Module}
 use Rattle.model.specs.declared.Presentation.{Presentation}
@@ -19,7 +19,7 @@ use Rattle.model.proofs.Module.Laws as T′
 use Rattle.model.proofs.Presentation as P
 use Rattle.model.proofs.Presentation.Laws as P′
 use Rattle.vcpu.specs.Records.{VcpuOut, entryOn, enteredVcpu}
-use Rattle.vcpu.specs.Lift.{unknown, onRecord, lift-entry}
+use Rattle.vcpu.proofs.Lift.{unknown, onRecord, lift-entry}
 use Rattle.vcpu.specs.declared.VcpuEntered.{VcpuEntered}
 use Rattle.vcpu.proofs.VcpuEntered as S
 use Rattle.vcpu.proofs.VcpuEntered.Laws as S′
@@ -42,14 +42,14 @@ use Rattle.gate_mut_entries.proofs.entry_in.Code as code
 
 -- what the step of the record answers
 abbrev Answer : Vcpu → Bool → Bool → Bool → VcpuEntered → Type 0
-Answer v x y z r = enteredVcpu r ≡ entryOn (vcpuVerdict 0 v (entry 0 x y z)) (offer x y z v) v
+Answer v x y z r = enteredVcpu r ≡ entryOn (vcpuVerdict 0 0 v (entry x y z)) (offer x y z v) v
 
 -- what the contract says, and that it holds at each way out
 abbrev Says : Module → ℕ → Bool → Bool → Bool → Presentation → Module → Type 0
-Says h i x y z r h′ = enteredOut (record { presentation = r; after = h′ }) ≡ step h (entry i x y z)
+Says h i x y z r h′ = enteredOut (record { presentation = r; after = h′ }) ≡ step h (at i (entry x y z))
 
 refuses : (h : Module) (i : ℕ) (x y z : Bool) → size h ≤ i → Says h i x y z (Refused UnknownVcpu) h
-refuses h i x y z over = sym (unknown h (entry i x y z) over)
+refuses h i x y z over = sym (unknown h (at i (entry x y z)) over)
 
 steps : (h : Module) (i : ℕ) (x y z : Bool) → i < size h → (r : VcpuEntered) → Answer (vcpuAt h i) x y z r → Says h i x y z (r .presentation) (withVcpu h i (r .vcpu))
 steps h i x y z l r is = ap (λ (s : VcpuOut). onRecord h i s []) is ∙ sym (lift-entry h i l x y z)

@@ -6,7 +6,8 @@ use Prim.Native.Nat.{_≤_}
 use denote.Struct.Laws as LL
 use types.Kit.{move}
 use Rattle.model.specs.State.{size, vcpuAt, withVcpu}
-use Rattle.model.specs.Events.{nonDelivery, vcpuVerdict, step, outOf}
+use Rattle.model.specs.Items.{flying}
+use Rattle.model.specs.Events.{nonDelivery, at, vcpuVerdict, step, outOf}
 use Rattle.model.specs.declared.Vcpu.{Vcpu}
 use Rattle.model.specs.declared.Module.{Module}
 use Rattle.model.specs.declared.Outcome.{Outcome}
@@ -17,7 +18,7 @@ use Rattle.model.proofs.Module.Laws as T′
 use Rattle.model.proofs.Outcome as O
 use Rattle.model.proofs.Outcome.Laws as O′
 use Rattle.vcpu.specs.Records.{VcpuOut, nonDeliveryOn, steppedOut}
-use Rattle.vcpu.specs.Lift.{unknown, onRecord, lift-nonDelivery}
+use Rattle.vcpu.proofs.Lift.{unknown, onRecord, lift-nonDelivery}
 use Rattle.vcpu.specs.declared.VcpuStepped.{VcpuStepped}
 use Rattle.vcpu.proofs.VcpuStepped as S
 use Rattle.vcpu.proofs.VcpuStepped.Laws as S′
@@ -40,14 +41,14 @@ use Rattle.gate_mut_entries.proofs.non_delivery_in.Code as code
 
 -- what the step of the record answers
 abbrev Answer : Vcpu → VcpuStepped → Type 0
-Answer v r = steppedOut r ≡ nonDeliveryOn (vcpuVerdict 0 v (nonDelivery 0)) (v .flight) v
+Answer v r = steppedOut r ≡ nonDeliveryOn (vcpuVerdict 0 0 v nonDelivery) (flying (v .flight)) v
 
 -- what the contract says, and that it holds at each way out
 abbrev Says : Module → ℕ → Outcome → Module → Type 0
-Says h i r h′ = outOf (record { outcome = r; after = h′ }) [] ≡ step h (nonDelivery i)
+Says h i r h′ = outOf (record { outcome = r; after = h′ }) [] ≡ step h (at i nonDelivery)
 
 refuses : (h : Module) (i : ℕ) → size h ≤ i → Says h i (Refused UnknownVcpu) h
-refuses h i over = sym (unknown h (nonDelivery i) over)
+refuses h i over = sym (unknown h (at i nonDelivery) over)
 
 steps : (h : Module) (i : ℕ) → i < size h → (r : VcpuStepped) → Answer (vcpuAt h i) r → Says h i (r .outcome) (withVcpu h i (r .vcpu))
 steps h i l r is = ap (λ (s : VcpuOut). onRecord h i s []) is ∙ sym (lift-nonDelivery h i l)

@@ -10,7 +10,7 @@ use denote.Signature.{Slot}
 use denote.Slice.{Room, sliceVal}
 use denote.Struct.Laws as LL
 use Rattle.model.specs.State.{isLeaving, size, vcpuAt, withVcpu}
-use Rattle.model.specs.Events.{handBack, handBackResult, handed, emptied, step, outOf}
+use Rattle.model.specs.Events.{handBack, at, handBackResult, handed, emptied, step, outOf}
 use Rattle.model.specs.declared.Vcpu.{Vcpu}
 use Rattle.model.specs.declared.Module.{Module}
 use Rattle.model.specs.declared.Outcome.{Outcome}
@@ -23,7 +23,7 @@ use Rattle.model.proofs.Outcome.Laws as O′
 use Rattle.model.proofs.Vcpu as R
 use Rattle.model.proofs.Vcpu.Laws as R′
 use Rattle.vcpu.specs.Records.{pageOn}
-use Rattle.vcpu.specs.Lift.{unknown}
+use Rattle.vcpu.proofs.Lift.{unknown}
 use Rattle.handback.specs.Handed.{handedPage}
 use Rattle.gate.proofs.Steps.{hand-back-kept, handed-back}
 use Rattle.vcpu_pages.specs.Pages.{pageVerdict, handOn, handedOut}
@@ -53,10 +53,10 @@ use Rattle.gate_mut_pages.proofs.hand_back_in.Code as code
 
 -- what the contract says, and that it holds where the vCPU is unknown
 abbrev Says : Module → ℕ → List ℕ → Bool → Bool → Outcome → Module → List ℕ → Type 0
-Says h i p x y r h′ p′ = outOf (record { outcome = r; after = h′ }) p′ ≡ step h (handBack i p x y)
+Says h i p x y r h′ p′ = outOf (record { outcome = r; after = h′ }) p′ ≡ step h (at i (handBack p x y))
 
 refuses : (h : Module) (i : ℕ) (p : List ℕ) (x y : Bool) → size h ≤ i → Says h i p x y (Refused UnknownVcpu) h p
-refuses h i p x y over = sym (unknown h (handBack i p x y) over)
+refuses h i p x y over = sym (unknown h (at i (handBack p x y)) over)
 
 -- what the page's function and the record's step say
 abbrev ts : List (Slot 1)

@@ -16,7 +16,7 @@ use denote.Slice.{Room, sliceVal}
 use denote.Struct.Laws as LL
 use Rattle.model.specs.State.{isActive, size, vcpuAt, withVcpu}
 use Rattle.model.specs.Doorbell.{partOf}
-use Rattle.model.specs.Events.{notice, noticed, step, outOf}
+use Rattle.model.specs.Events.{notice, at, noticed, step, outOf}
 use Rattle.model.specs.declared.Admitted.{Admitted}
 use Rattle.model.specs.declared.Phase.{Phase}
 use Rattle.model.specs.declared.Vcpu.{Vcpu}
@@ -35,7 +35,7 @@ use Rattle.model.proofs.Phase.Laws as F′
 use Rattle.model.proofs.Vcpu as R
 use Rattle.model.proofs.Vcpu.Laws as R′
 use Rattle.vcpu.specs.Records.{pageOn}
-use Rattle.vcpu.specs.Lift.{unknown}
+use Rattle.vcpu.proofs.Lift.{unknown}
 use Rattle.doorbell.specs.Served.{takenPart, takenPage}
 use Rattle.gate.proofs.Steps.{notice-kept, notice-taken}
 use Rattle.vcpu_pages.specs.Pages.{pageVerdict, takeOn, takenOut}
@@ -65,10 +65,10 @@ use Rattle.gate_mut_pages.proofs.notice_in.Code as code
 
 -- what the contract says, and that it holds where the vCPU is unknown
 abbrev Says : Module → ℕ → List ℕ → Outcome → Module → List ℕ → Type 0
-Says h i p r h′ p′ = outOf (record { outcome = r; after = h′ }) p′ ≡ step h (notice i p)
+Says h i p r h′ p′ = outOf (record { outcome = r; after = h′ }) p′ ≡ step h (at i (notice p))
 
 refuses : (h : Module) (i : ℕ) (p : List ℕ) → size h ≤ i → Says h i p (Refused UnknownVcpu) h p
-refuses h i p over = sym (unknown h (notice i p) over)
+refuses h i p over = sym (unknown h (at i (notice p)) over)
 
 -- what the page's function and the record's step say
 abbrev ts : List (Slot 1)

@@ -3,6 +3,7 @@
 use mathlib.Core.Path.{ap}
 use borrow.Author.Needs.{needs}
 use Rattle.model.specs.declared.Request.the-variants as request
+use Rattle.model.specs.Requests.{callVerdict}
 use Rattle.vcpu.specs.Records.{callOn, calledOut}
 use Rattle.vcpu_calls.proofs.CallsLaws.{asked, not-asked}
 use Rattle.vcpu.proofs.Told.{not-active}
@@ -16,6 +17,7 @@ returns c =
     (not-active (a .v .phase) (c .before .match .keys2)) (c .refused .ensures)
 
 returns-2 : tie.Need-returns-2
+unfolding callVerdict
 returns-2 c =
     let a = c .before .before .before .before .before .before .before .args in
     let q = c .before .before .request in
@@ -23,7 +25,7 @@ returns-2 c =
     (c .before .before .before .before .before .enum-told .given .1) (c .before .before .before .before .request-of .ensures) (q .given .1) (c .serve-local .ensures)
 
 returns-3 : tie.Need-returns-3
-unfolding callOn
+unfolding callOn callVerdict
 returns-3 c =
     let a = c .before .before .before .before .before .before .before .args in
     let q = c .before .before .request2 in
@@ -31,7 +33,7 @@ returns-3 c =
     (c .before .before .before .before .before .enum-told .given .1) (c .before .before .before .before .request-of .ensures) (q .given .1) (c .store-icr .ensures)
 
 returns-4 : tie.Need-returns-4
-unfolding callOn
+unfolding callOn callVerdict
 returns-4 c =
     let a = c .before .before .before .before .before .before .before .args in
     let q = c .before .before .request3 in

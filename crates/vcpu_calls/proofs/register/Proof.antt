@@ -13,13 +13,13 @@ use Rattle.vcpu_calls.proofs.register.Statement.{statement}
 use Rattle.vcpu_calls.proofs.register.Tie as tie
 
 returns : tie.Need-returns
-unfolding callOn
+unfolding callOn serve
 returns c =
     let k = c .before .before .args .registrations in
     rw (lt-leb 1 k (omega arith)) (ap calledOut (c .refused .ensures))
 
 returns-2 : tie.Need-returns-2
-unfolding callOn
+unfolding callOn serve
 returns-2 c =
     let k = c .before .before .before .args .registrations in
     rw (le-leb 1 k (omega arith), lt-leb k 254 (omega arith)) (ap calledOut (c .refused2 .ensures))

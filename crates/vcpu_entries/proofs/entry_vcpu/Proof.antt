@@ -5,30 +5,30 @@ use borrow.Author.Needs.{needs}
 use Rattle.model.specs.declared.Phase.{Phase}
 use Rattle.model.specs.declared.Phase.the-variants.{Active}
 use Rattle.model.specs.declared.Refusal.the-variants.{NotActive}
-use Rattle.model.specs.declared.InFlight.{InFlight}
 use Rattle.model.specs.declared.Presentation.{Presentation}
 use Rattle.model.specs.declared.Presentation.the-variants as shown
 use Rattle.model.specs.declared.Vcpu.{Vcpu}
 use Rattle.model.specs.State.{isActive}
-use Rattle.model.specs.Codes.{refused, codeOf, presentedResult}
-use Rattle.model.specs.Events.{entry, accept, need, vcpuVerdict, Offer, offer, offered, present}
+use Rattle.model.specs.Codes.{codeOf, accept, need, Answer, Result, answers, refused, presentedResult}
+use Rattle.model.specs.Requests.{forget}
+use Rattle.model.specs.Events.{entry, vcpuVerdict, offer}
 use Rattle.vcpu.specs.Records.{entryOn}
 use Rattle.vcpu.proofs.Told.{not-active}
-use Rattle.vcpu_entries.proofs.Told.{outOf, flightIn, flight-in, none-shown}
+use Rattle.vcpu_entries.proofs.Told.{outOf, after, none-shown}
 use Rattle.vcpu_entries.proofs.entry_vcpu.Statement.{statement}
 use Rattle.vcpu_entries.proofs.entry_vcpu.Tie as tie
 
-refusing : (iF sh bl : Bool) (v : Vcpu) (o : Offer) → isActive (v .phase) ≡ false
-    → outOf (refused (codeOf NotActive)) v ≡ entryOn (vcpuVerdict 0 v (entry 0 iF sh bl)) o v
+refusing : (iF sh bl : Bool) (v : Vcpu) (o : Answer) → isActive (v .phase) ≡ false
+    → outOf (refused (codeOf NotActive)) v ≡ entryOn (vcpuVerdict 0 0 v (entry iF sh bl)) o v
 unfolding entryOn vcpuVerdict
 refusing iF sh bl v o h = ap (λ (b : Bool). entryOn (need b NotActive accept) o v) (sym h)
 
--- the answer r, that of the offer, and the record that it puts in flight
-entered : (iF sh bl : Bool) (v w : Vcpu) (r : Presentation) → v .phase ≡ Active → presentedResult r ≡ offered (offer iF sh bl v)
-    → w ≡ present (flightIn (presentedResult r)) v → outOf (presentedResult r) w ≡ entryOn (vcpuVerdict 0 v (entry 0 iF sh bl)) (offer iF sh bl v) v
+-- the answer r, that of the offer, and the record after it
+entering : (iF sh bl : Bool) (v w : Vcpu) (r : Presentation) → v .phase ≡ Active → presentedResult r ≡ answers (offer iF sh bl v)
+    → w ≡ after (presentedResult r) (forget v) → outOf (presentedResult r) w ≡ entryOn (vcpuVerdict 0 0 v (entry iF sh bl)) (offer iF sh bl v) v
 unfolding entryOn vcpuVerdict
-entered iF sh bl v w r g e h =
-    ap₂ outOf e (h ∙ ap (λ (f : InFlight). present f v) (ap flightIn e ∙ flight-in (offer iF sh bl v)))
+entering iF sh bl v w r g e h =
+    ap₂ outOf e (h ∙ ap (λ (x : Result). after x (forget v)) e)
     ∙ ap (λ (p : Phase). entryOn (need (isActive p) NotActive accept) (offer iF sh bl v) v) (sym g)
 
 returns : tie.Need-returns
@@ -40,24 +40,23 @@ returns-2 : tie.Need-returns-2
 returns-2 c =
     let d = c .before .before .before in
     let a = d .before .before .before .args in
-    entered (a .iflag) (a .shadow) (a .blocked) (a .v) (c .present-nmi .result) (d .offer-of .result) (d .before .enum-told .given .1) (d .offer-of .ensures)
-    (c .present-nmi .ensures ∙ ap (λ (r : Presentation). present (flightIn (presentedResult r)) (a .v)) (sym (c .before .enum-told2 .given .1)))
+    entering (a .iflag) (a .shadow) (a .blocked) (a .v) (c .present-nmi .result) (d .offer-of .result) (d .before .enum-told .given .1) (d .offer-of .ensures)
+    (c .present-nmi .ensures ∙ ap (λ (r : Presentation). after (presentedResult r) (forget (a .v))) (sym (c .before .enum-told2 .given .1)))
 
 returns-3 : tie.Need-returns-3
 returns-3 c =
     let t = c .before .before .presentation .given in
     let d = c .before .before .before .before in
     let a = d .before .before .before .args in
-    entered (a .iflag) (a .shadow) (a .blocked) (a .v) (c .present-vector .result) (shown.Vector (t .0 .0)) (d .before .enum-told .given .1)
+    entering (a .iflag) (a .shadow) (a .blocked) (a .v) (c .present-vector .result) (shown.Vector (t .0 .0)) (d .before .enum-told .given .1)
     (ap presentedResult (sym (t .1)) ∙ d .offer-of .ensures) (c .present-vector .ensures)
 
 returns-4 : tie.Need-returns-4
-unfolding present
 returns-4 c =
     let d = c .before .before in
     let a = d .before .before .before .args in
-    entered (a .iflag) (a .shadow) (a .blocked) (a .v) (c .with-flight .result) (d .offer-of .result) (d .before .enum-told .given .1) (d .offer-of .ensures)
-    (c .with-flight .ensures ∙ ap (λ (f : InFlight). present f (a .v)) (sym (none-shown (d .offer-of .result) (c .before .match2 .keys3))))
+    entering (a .iflag) (a .shadow) (a .blocked) (a .v) (c .with-flight .result) (d .offer-of .result) (d .before .enum-told .given .1) (d .offer-of .ensures)
+    (c .with-flight .ensures ∙ none-shown (d .offer-of .result) (forget (a .v)) (c .before .match2 .keys3))
 
 pub entry-vcpu-spec : {M : Type 1} → statement M
 entry-vcpu-spec =

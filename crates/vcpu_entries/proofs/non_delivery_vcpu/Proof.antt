@@ -6,8 +6,9 @@ use Rattle.model.specs.declared.Refusal.the-variants.{NotActive, NothingInFligh
 use Rattle.model.specs.declared.InFlight.{InFlight}
 use Rattle.model.specs.declared.Vcpu.{Vcpu}
 use Rattle.model.specs.State.{isActive, flies}
-use Rattle.model.specs.Codes.{done}
-use Rattle.model.specs.Events.{nonDelivery, accept, need, vcpuVerdict}
+use Rattle.model.specs.Codes.{accept, need, done}
+use Rattle.model.specs.Items.{flying}
+use Rattle.model.specs.Events.{nonDelivery, vcpuVerdict}
 use Rattle.vcpu.specs.Records.{VcpuOut, steppedOut, nonDeliveryOn}
 use Rattle.vcpu.proofs.Told.{not-active}
 use Rattle.vcpu_entries.proofs.Told.{outOf}
@@ -16,10 +17,10 @@ use Rattle.vcpu_entries.proofs.non_delivery_vcpu.Tie as tie
 
 -- the definition by whether the vCPU is active and by what is in flight
 at : Vcpu → Bool → InFlight → VcpuOut
-at v b f = nonDeliveryOn (need b NotActive (need (flies f) NothingInFlight accept)) f v
+at v b f = nonDeliveryOn (need b NotActive (need (flies f) NothingInFlight accept)) (flying f) v
 
 at-is : (v : Vcpu) (b : Bool) (f : InFlight) → isActive (v .phase) ≡ b → v .flight ≡ f
-    → at v b f ≡ nonDeliveryOn (vcpuVerdict 0 v (nonDelivery 0)) (v .flight) v
+    → at v b f ≡ nonDeliveryOn (vcpuVerdict 0 0 v nonDelivery) (flying (v .flight)) v
 unfolding at vcpuVerdict
 at-is v b f e h = ap₂ (at v) (sym e) (sym h)
 

@@ -5,19 +5,21 @@ use borrow.Author.Needs.{needs}
 use Rattle.vector_set.specs.Sets.{highest}
 use Rattle.model.specs.declared.Vcpu.{Vcpu}
 use Rattle.model.specs.Registers.{ppr}
-use Rattle.model.specs.Events.{Offer, offerNmi, offerHighest, offer, offered}
+use Rattle.model.specs.declared.Item.the-variants as item
+use Rattle.model.specs.Codes.{Answer, presents, answers}
+use Rattle.model.specs.Events.{offerHighest, offer}
 use Rattle.vcpu_entries.proofs.offer_of.Statement.{statement}
 use Rattle.vcpu_entries.proofs.offer_of.Tie as tie
 
 -- the highest pending vector, where the NMI is not offered
-highestOf : Bool → Vcpu → Offer
+highestOf : Bool → Vcpu → Answer
 highestOf b v = offerHighest b (ppr v) (highest (v .irr))
 
 shadowed : (iF sh bl : Bool) (v : Vcpu) → sh ≡ true → highestOf false v ≡ offer iF sh bl v
 unfolding highestOf offer
 shadowed iF sh bl v e = rw e (go (v .nmi) iF)
   where
-    go : (n b : Bool) → highestOf false v ≡ cond (n && false) offerNmi (highestOf (b && false) v)
+    go : (n b : Bool) → highestOf false v ≡ cond (n && false) (presents item.Nmi) (highestOf (b && false) v)
     go true true = refl
     go true false = refl
     go false true = refl
@@ -31,26 +33,26 @@ blocking : (iF sh bl : Bool) (v : Vcpu) → sh ≡ false → bl ≡ true → hig
 unfolding highestOf offer
 blocking iF sh bl v e f = rw (e, f) (go (v .nmi))
   where
-    go : (n : Bool) → highestOf iF v ≡ cond (n && false) offerNmi (highestOf (iF && true) v)
+    go : (n : Bool) → highestOf iF v ≡ cond (n && false) (presents item.Nmi) (highestOf (iF && true) v)
     go true = ap (λ (b : Bool). highestOf b v) (and-true iF)
     go false = ap (λ (b : Bool). highestOf b v) (and-true iF)
 
-marked : (iF sh bl : Bool) (v : Vcpu) → sh ≡ false → bl ≡ false → v .nmi ≡ true → offerNmi ≡ offer iF sh bl v
+marked : (iF sh bl : Bool) (v : Vcpu) → sh ≡ false → bl ≡ false → v .nmi ≡ true → presents item.Nmi ≡ offer iF sh bl v
 unfolding highestOf offer
-marked iF sh bl v e f g = rw (e, f) (ap (λ (n : Bool). cond (n && true) offerNmi (highestOf (iF && true) v)) (sym g))
+marked iF sh bl v e f g = rw (e, f) (ap (λ (n : Bool). cond (n && true) (presents item.Nmi) (highestOf (iF && true) v)) (sym g))
 
 unmarked : (iF sh bl : Bool) (v : Vcpu) → sh ≡ false → bl ≡ false → v .nmi ≡ false → highestOf iF v ≡ offer iF sh bl v
 unfolding highestOf offer
 unmarked iF sh bl v e f g =
     rw (e, f)
     (ap (λ (b : Bool). highestOf b v) (and-true iF)
-    ∙ ap (λ (n : Bool). cond (n && true) offerNmi (highestOf (iF && true) v)) (sym g))
+    ∙ ap (λ (n : Bool). cond (n && true) (presents item.Nmi) (highestOf (iF && true) v)) (sym g))
 
 returns : tie.Need-returns
 unfolding highestOf
 returns c =
     let a = c .before .before .args in
-    c .offer-vector .ensures ∙ ap offered (shadowed (a .iflag) (a .shadow) (a .blocked) (a .v) (c .before .if1 .taken))
+    c .offer-vector .ensures ∙ ap answers (shadowed (a .iflag) (a .shadow) (a .blocked) (a .v) (c .before .if1 .taken))
 
 returns-2 : tie.Need-returns-2
 unfolding highestOf
@@ -58,13 +60,13 @@ returns-2 c =
     let d = c .before in
     let a = d .before .before .args in
     c .offer-vector2 .ensures
-    ∙ ap offered (blocking (a .iflag) (a .shadow) (a .blocked) (a .v) (d .before .if1 .left) (d .if2 .taken))
+    ∙ ap answers (blocking (a .iflag) (a .shadow) (a .blocked) (a .v) (d .before .if1 .left) (d .if2 .taken))
 
 returns-3 : tie.Need-returns-3
 returns-3 c =
     let d = c .before in
     let a = d .before .before .args in
-    ap offered (marked (a .iflag) (a .shadow) (a .blocked) (a .v) (d .before .if1 .left) (d .if2 .left) (c .if3 .taken))
+    ap answers (marked (a .iflag) (a .shadow) (a .blocked) (a .v) (d .before .if1 .left) (d .if2 .left) (c .if3 .taken))
 
 returns-4 : tie.Need-returns-4
 unfolding highestOf
@@ -72,7 +74,7 @@ returns-4 c =
     let d = c .before .before in
     let a = d .before .before .args in
     c .offer-vector3 .ensures
-    ∙ ap offered (unmarked (a .iflag) (a .shadow) (a .blocked) (a .v) (d .before .if1 .left) (d .if2 .left) (c .before .if3 .left))
+    ∙ ap answers (unmarked (a .iflag) (a .shadow) (a .blocked) (a .v) (d .before .if1 .left) (d .if2 .left) (c .before .if3 .left))
 
 pub offer-of-spec : {M : Type 1} → statement M
 offer-of-spec =

@@ -7,24 +7,25 @@ use borrow.Author.Needs.{needs}
 use borrow.Author.Tests.{le-leb, lt-leb}
 use Rattle.vector_set.specs.Sets.{vectorOf}
 use Rattle.model.specs.Registers.{ppr}
-use Rattle.model.specs.Codes.{nothing, vector, window}
-use Rattle.model.specs.Events.{offerHighest, offered}
+use Rattle.model.specs.declared.Item.the-variants as item
+use Rattle.model.specs.Codes.{nothing, presents, window, answers}
+use Rattle.model.specs.Events.{offerHighest}
 use Rattle.vcpu_entries.proofs.offer_vector.Statement.{statement}
 use Rattle.vcpu_entries.proofs.offer_vector.Tie as tie
 
-at-none : (b : Bool) (p : ℕ) (o : Option ℕ) → none ≡ o → nothing ≡ offered (offerHighest b p o)
+at-none : (b : Bool) (p : ℕ) (o : Option ℕ) → none ≡ o → answers nothing ≡ answers (offerHighest b p o)
 unfolding offerHighest
 at-none b p o e = rw (← e)
 
-at-low : (b : Bool) (p q x : ℕ) (o : Option ℕ) → q ≡ p → some x ≡ o → x / 16 ≤ q / 16 → nothing ≡ offered (offerHighest b p o)
+at-low : (b : Bool) (p q x : ℕ) (o : Option ℕ) → q ≡ p → some x ≡ o → x / 16 ≤ q / 16 → answers nothing ≡ answers (offerHighest b p o)
 unfolding offerHighest
 at-low b p q x o d e h = rw (← d, ← e, le-leb (x / 16) (q / 16) h)
 
-at-ready : (b : Bool) (p q x : ℕ) (o : Option ℕ) → q ≡ p → some x ≡ o → q / 16 < x / 16 → b ≡ true → vector x ≡ offered (offerHighest b p o)
+at-ready : (b : Bool) (p q x : ℕ) (o : Option ℕ) → q ≡ p → some x ≡ o → q / 16 < x / 16 → b ≡ true → answers (presents (item.Vector x)) ≡ answers (offerHighest b p o)
 unfolding offerHighest
 at-ready b p q x o d e h t = rw (← d, ← e, lt-leb (x / 16) (q / 16) h, t)
 
-at-window : (b : Bool) (p q x : ℕ) (o : Option ℕ) → q ≡ p → some x ≡ o → q / 16 < x / 16 → b ≡ false → window x ≡ offered (offerHighest b p o)
+at-window : (b : Bool) (p q x : ℕ) (o : Option ℕ) → q ≡ p → some x ≡ o → q / 16 < x / 16 → b ≡ false → answers (window x) ≡ answers (offerHighest b p o)
 unfolding offerHighest
 at-window b p q x o d e h t = rw (← d, ← e, lt-leb (x / 16) (q / 16) h, t)
 

@@ -1,11 +1,12 @@
 -- `vcpu_entries::present_nmi` meets its contract. Assumes nothing.
 use borrow.Author.Needs.{needs}
-use Rattle.model.specs.Events.{present}
+use Rattle.model.specs.Items.{unmark}
+use Rattle.model.specs.Events.{present, entered}
 use Rattle.vcpu_entries.proofs.present_nmi.Statement.{statement}
 use Rattle.vcpu_entries.proofs.present_nmi.Tie as tie
 
 returns : tie.Need-returns
-unfolding present
+unfolding entered present unmark
 returns c = c .with-flight .ensures
 
 pub present-nmi-spec : {M : Type 1} → statement M

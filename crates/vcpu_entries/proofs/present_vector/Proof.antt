@@ -2,13 +2,14 @@
 use mathlib.Core.Path.{_∙_}
 use borrow.Author.Needs.{needs}
 use Rattle.model.specs.declared.InFlight.the-variants.{Vector}
-use Rattle.model.specs.Events.{present}
+use Rattle.model.specs.Items.{unmark}
+use Rattle.model.specs.Events.{present, entered}
 use Rattle.vcpu_entries.proofs.Sets.{same-sets}
 use Rattle.vcpu_entries.proofs.present_vector.Statement.{statement}
 use Rattle.vcpu_entries.proofs.present_vector.Tie as tie
 
 returns : tie.Need-returns
-unfolding present
+unfolding entered present unmark
 returns c =
     let d = c .before .before .before .before in
     let a = d .before .before .before .before .before .args in

@@ -2,13 +2,14 @@
 use mathlib.Core.Path.{_∙_}
 use borrow.Author.Needs.{needs}
 use Rattle.model.specs.declared.InFlight.the-variants.{Nothing}
-use Rattle.model.specs.Events.{giveBack}
+use Rattle.model.specs.Items.{mark}
+use Rattle.model.specs.Events.{giveBack, undelivered}
 use Rattle.vcpu_entries.proofs.Sets.{same-sets}
 use Rattle.vcpu_entries.proofs.return_vector.Statement.{statement}
 use Rattle.vcpu_entries.proofs.return_vector.Tie as tie
 
 returns : tie.Need-returns
-unfolding giveBack
+unfolding undelivered giveBack mark
 returns c =
     let d = c .before .before .before .before in
     let a = d .before .before .before .before .before .args in

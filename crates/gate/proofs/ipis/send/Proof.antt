@@ -5,8 +5,8 @@ use native.Mathlib.Omega.{arith}
 use lib.ListN.{length, length-set}
 use borrow.Author.Needs.{needs}
 use Rattle.model.specs.State.{size, withVcpu}
-use Rattle.vcpu.specs.Records.{Sending, sendBelow}
-use Rattle.vcpu.specs.Lift.{delivered, size-le}
+use Rattle.vcpu.specs.Records.{Sending, sendBelow, delivered}
+use Rattle.vcpu.proofs.Lift.{size-le}
 use Rattle.gate.proofs.Steps.{size-is, records-32, record-is, one-more}
 use Rattle.gate.proofs.ipis.send.Statement.{statement}
 use Rattle.gate.proofs.ipis.send.Tie as tie

@@ -12,7 +12,8 @@ use Rattle.model.specs.declared.Item.{Item}
 use Rattle.model.specs.declared.Target.{Target}
 use Rattle.model.specs.declared.Vcpu.{Vcpu}
 use Rattle.model.specs.State.{isActive}
-use Rattle.model.specs.Ipi.{icrItem, icrTarget, hits, post}
+use Rattle.model.specs.Items.{mark}
+use Rattle.model.specs.Ipi.{icrItem, icrTarget, hits}
 use Rattle.vcpu.specs.declared.VcpuSent.{VcpuSent}
 use Rattle.vcpu.specs.Records.{sendOn}
 use Rattle.vcpu.proofs.Told.{not-active}
@@ -31,7 +32,7 @@ module _ (i k x b : ℕ) (v : Vcpu) where
   one-shl : k < 32 → (1 * 2 ^ k) % 2 ^ 64 ≡ 2 ^ k
   one-shl l = shl-exact {a = 1} 1 k 64 (omega arith) (omega arith) ∙ omega arith
 
-  posted : test i k x v ≡ true → k < 32 → (w : Vcpu) → w ≡ post (icrItem x) v
+  posted : test i k x v ≡ true → k < 32 → (w : Vcpu) → w ≡ mark (icrItem x) v
       → _≡_ {A = VcpuSent} (record { mask = bitOr b ((1 * 2 ^ k) % 2 ^ 64); vcpu = w }) (sendOn i k x b v)
   unfolding sendOn
   posted e l w p = rw (e, one-shl l) (ap (λ (u : Vcpu). record { mask = bitOr b (2 ^ k); vcpu = u }) p)
@@ -87,7 +88,7 @@ returns-4 c =
     (ap isActive (c .before .before .enum-told .given .1)))
     (c .before .before .before .before .before .before .before .if1 .left)
     (c .post-item .result)
-    (c .post-item .ensures ∙ ap (λ (y : Item). post y (a .v)) (c .before .item-of .ensures))
+    (c .post-item .ensures ∙ ap (λ (y : Item). mark y (a .v)) (c .before .item-of .ensures))
 
 pub send-vcpu-spec : {M : Type 1} → statement M
 send-vcpu-spec =

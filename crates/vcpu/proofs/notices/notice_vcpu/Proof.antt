@@ -11,6 +11,7 @@ use Rattle.vector_set.proofs.Laws.{Words}
 use Rattle.vector_set.proofs.WordLaws.{field-words}
 use Rattle.model.specs.declared.Vcpu.{Vcpu}
 use Rattle.model.specs.State.{withIrr, withIrrLevel, withNmi}
+use Rattle.model.specs.Items.{markAll}
 use Rattle.model.specs.Events.{noticed}
 use Rattle.vcpu.proofs.Sets.{edges-only, no-level, edges-level, one-level}
 use Rattle.vcpu.proofs.notices.notice_vcpu.Statement.{statement}
@@ -23,13 +24,13 @@ abbrev sets : Vcpu → List ℕ → List ℕ → Vcpu
 sets v s l = withIrrLevel l (withIrr s v)
 
 at-none : (n : Bool) (e : List ℕ) (v : Vcpu) → Words (v .«irr_level») → edges n e v ≡ noticed (record { nmi = n; level = none; edge = e }) v
-unfolding noticed
+unfolding noticed markAll
 at-none n e v w =
     ap₂ (λ (s l : List ℕ). withNmi (v .nmi || n) (sets v s l)) (edges-only (v .irr) e) (no-level (v .«irr_level») w)
 
 at-level : (n : Bool) (x : ℕ) (e : List ℕ) (v w : Vcpu) (s l : List ℕ) → w ≡ edges n e v → s ≡ insert x (w .irr) → l ≡ insert x (w .«irr_level»)
     → sets w s l ≡ noticed (record { nmi = n; level = some x; edge = e }) v
-unfolding noticed
+unfolding noticed markAll
 at-level n x e v w s l h p q =
     ap₂ (sets w) p q
     ∙ ap (λ (u : Vcpu). sets u (insert x (u .irr)) (insert x (u .«irr_level»))) h

@@ -3,16 +3,14 @@
 use mathlib.Core.Path.{_≡_, refl, sym, ap, ap₂, _∙_}
 use mathlib.Core.Bool.{Bool, true, false, cond, _&&_, _||_}
 use mathlib.Core.List.{List, [], _∷_}
-use Prim.Native.Nat.{ℕ, zero, suc, _+_, _-_, _*_, _^_, _<_, _≤_}
+use Prim.Native.Nat.{ℕ, zero, suc, _+_, _-_, _^_, _<_, _≤_}
 use native.Mathlib.Omega.{arith}
 use native.Mathlib.Nat.{le-of-suc-le-suc, not-suc-le-zero, pow-succ'}
 use lib.Bits.{bitOr, or-lt}
 use lib.Pow.{pow-pos}
 use lib.Dec.{leb, ltb, eqb}
 use lib.ListN.{length, getD, set, length-set}
-use lib.Seq.{getD-set-same, getD-set-other, ext-getD}
 use borrow.Author.Tests.{lt-ltb, le-ltb, leb-true, ltb-true, ltb-false, eqb-true, eqb-false}
-use Rattle.model.specs.declared.InFlight.{InFlight}
 use Rattle.model.specs.declared.Kind.{Kind}
 use Rattle.model.specs.declared.Kind.the-variants as kind
 use Rattle.model.specs.declared.Local.{Local}
@@ -23,19 +21,20 @@ use Rattle.model.specs.declared.Request.the-variants as request
 use Rattle.model.specs.declared.Target.{Target}
 use Rattle.model.specs.declared.Vcpu.{Vcpu}
 use Rattle.model.specs.declared.Module.{Module}
-use Rattle.model.specs.State.{isActive, absent, bare, size, vcpuAt, withVcpu, withRegistrations, withIcr}
-use Rattle.model.specs.Doorbell.{isVector, Part, admitted, noticedPage, written}
-use Rattle.model.specs.Codes.{codeOf, Result, done, refused}
-use Rattle.model.specs.Ipi.{icrLegal, icrItem, icrTarget, hits, reached, post, reach, mapFrom, sent, reachedBits}
+use Rattle.model.specs.State.{isActive, absent, size, vcpuAt, withVcpu, withRegistrations, withIcr}
+use Rattle.model.specs.Doorbell.{isVector, admitted, noticedPage, written}
+use Rattle.model.specs.Codes.{codeOf, Verdict, accept, refuse, refused}
+use Rattle.model.specs.Items.{flying, mark}
+use Rattle.model.specs.Ipi.{icrLegal, icrItem, icrTarget, hits, reached, reach, mapFrom, sent, reachedBits}
 use Rattle.model.specs.Requests.{requestOf, registration, readBy, writeBy, writeValue, nameable, permission, forget}
 use Rattle.model.specs.Registers.{kindOf}
-use Rattle.model.specs.Events.{Event, notice, call, entry, nonDelivery, handBack, on, pageOf, Offer, offer, Verdict, accept, refuse, need, vcpuVerdict, verdict, Out, refusal, doNotice, doCall, doEntry, doNonDelivery, doHandBack, handed, step}
+use Rattle.model.specs.Events.{Act, notice, call, entry, nonDelivery, handBack, at, Bytes, Event, pageOf, offer, handed, vcpuVerdict, verdict, effect, callEffect, Out, refusal, concluded, decided, step}
 use Rattle.vector_set.proofs.BitLaws.{clash, bits-bit, bits-lt, bits-ext, bits-unique, bit-or, bit-pow, bit-above}
 use Rattle.vector_set.specs.Bits.{bits, bitAt, one}
-use Rattle.model.proofs.Tests.{or-true, or-false, and-true}
-use Rattle.model.proofs.Stored.{on-put, vcpuAt-sent, size-put, vcpuAt-count}
+use Rattle.model.proofs.Tests.{or-true, or-false}
+use Rattle.model.proofs.Stored.{on-put, size-put, count-same}
 use Rattle.vcpu.specs.declared.VcpuSent.{VcpuSent}
-use Rattle.vcpu.specs.Records.{servedCount, VcpuOut, noticeOn, entryOn, nonDeliveryOn, handBackOn, pageOn, CallOut, callOn, sendOn, Sending, sendAt, sendBelow}
+use Rattle.vcpu.specs.Records.{VcpuOut, noticeOn, entryOn, nonDeliveryOn, handBackOn, pageOn, CallOut, callOn, sendOn, Sending, sendAt, sendBelow, delivered}
 
 -- ---- a record stored back as it was
 set-getD : (l : List Vcpu) (i : ℕ) (d : Vcpu) → set l i (getD l i d) ≡ l
@@ -48,102 +47,108 @@ unfolding withVcpu vcpuAt
 put-same m i = ap (λ (l : List Vcpu). record { n = m .n; vmpl = m .vmpl; registrations = m .registrations; vcpus = l }) (set-getD (m .vcpus) i absent)
 
 -- ---- an unknown vCPU
-pub unknown : (m : Module) (e : Event) → size m ≤ on e → step m e ≡ refusal UnknownVcpu m (pageOf e)
-unfolding step verdict doNotice doCall doEntry doNonDelivery doHandBack
-unknown m (notice i p) h = rw (le-ltb i (size m) h)
-unknown m (call i op c x) h = rw (le-ltb i (size m) h)
-unknown m (entry i iF sh bl) h = rw (le-ltb i (size m) h)
-unknown m (nonDelivery i) h = rw (le-ltb i (size m) h)
-unknown m (handBack i p iF sh) h = rw (le-ltb i (size m) h)
+pub unknown : (m : Module) (e : Event) → size m ≤ e .vcpu → step m e ≡ refusal UnknownVcpu m (pageOf (e .act))
+unfolding step verdict
+unknown m e h = rw (le-ltb (e .vcpu) (size m) h)
 
 -- for a vCPU below n the record decides
-known : (m : Module) (e : Event) → on e < size m → verdict m e ≡ vcpuVerdict (m .registrations) (vcpuAt m (on e)) e
+known : (m : Module) (i : ℕ) (a : Act Bytes) → i < size m
+    → verdict m (at i a) ≡ vcpuVerdict i (m .registrations) (vcpuAt m i) a
 unfolding verdict
-known m e h = rw (lt-ltb (on e) (size m) h)
+known m i a h = rw (lt-ltb i (size m) h)
 
--- ---- the events on one record
+-- ---- the acts that change one record
 -- an event's result and page, with the record i after it
 abbrev pub onRecord : Module → ℕ → VcpuOut → List ℕ → Out
 onRecord m i o p = record { result = o .result; after = withVcpu m i (o .vcpu); page = p }
 
 -- a refusal stores the record back as it was
-kept : (m : Module) (i : ℕ) (r : Result) (p : List ℕ)
-    → _≡_ {A = Out} (record { result = r; after = m; page = p }) (record { result = r; after = withVcpu m i (vcpuAt m i); page = p })
-kept m i r p = ap (λ (a : Module). record { result = r; after = a; page = p }) (sym (put-same m i))
+kept : (m : Module) (i : ℕ) (c : Refusal) (p : List ℕ)
+    → refusal c m p ≡ onRecord m i (record { result = refused (codeOf c); vcpu = vcpuAt m i }) p
+kept m i c p = ap (λ (a : Module). record { result = refused (codeOf c); after = a; page = p }) (sym (put-same m i))
 
-do-notice : (g : Verdict) (a : Part) (m : Module) (i : ℕ) (p : List ℕ)
-    → doNotice g a m i p ≡ onRecord m i (noticeOn g a (vcpuAt m i)) (pageOn g (noticedPage (m .vmpl) p) p)
-unfolding doNotice noticeOn pageOn
-do-notice (refuse c) a m i p = kept m i _ p
-do-notice accept a m i p = refl
+-- the step by the verdict g
+by-notice : (g : Verdict) (m : Module) (i : ℕ) (p : List ℕ)
+    → decided g m (at i (notice p))
+    ≡ onRecord m i (noticeOn g (admitted (m .vmpl) (vcpuAt m i .allowed) p) (vcpuAt m i)) (pageOn g (noticedPage (m .vmpl) p) p)
+unfolding effect concluded withVcpu withRegistrations noticeOn pageOn
+by-notice (refuse c) m i p = kept m i c p
+by-notice accept m i p = refl
 
-do-entry : (g : Verdict) (o : Offer) (m : Module) (i : ℕ) → doEntry g o m i ≡ onRecord m i (entryOn g o (vcpuAt m i)) []
-unfolding doEntry entryOn
-do-entry (refuse c) o m i = kept m i _ []
-do-entry accept o m i = refl
+by-entry : (g : Verdict) (m : Module) (i : ℕ) (iF sh bl : Bool)
+    → decided g m (at i (entry iF sh bl)) ≡ onRecord m i (entryOn g (offer iF sh bl (vcpuAt m i)) (vcpuAt m i)) []
+unfolding effect concluded withVcpu withRegistrations entryOn
+by-entry (refuse c) m i iF sh bl = kept m i c []
+by-entry accept m i iF sh bl = refl
 
-do-nonDelivery : (g : Verdict) (f : InFlight) (m : Module) (i : ℕ)
-    → doNonDelivery g f m i ≡ onRecord m i (nonDeliveryOn g f (vcpuAt m i)) []
-unfolding doNonDelivery nonDeliveryOn
-do-nonDelivery (refuse c) f m i = kept m i _ []
-do-nonDelivery accept f m i = refl
+by-nonDelivery : (g : Verdict) (m : Module) (i : ℕ)
+    → decided g m (at i nonDelivery) ≡ onRecord m i (nonDeliveryOn g (flying (vcpuAt m i .flight)) (vcpuAt m i)) []
+unfolding effect concluded withVcpu withRegistrations nonDeliveryOn
+by-nonDelivery (refuse c) m i = kept m i c []
+by-nonDelivery accept m i = refl
 
-do-handBack : (g : Verdict) (m : Module) (i : ℕ) (p : List ℕ) (iF sh : Bool)
-    → doHandBack g m i p iF sh
+by-handBack : (g : Verdict) (m : Module) (i : ℕ) (p : List ℕ) (iF sh : Bool)
+    → decided g m (at i (handBack p iF sh))
     ≡ onRecord m i (handBackOn g (m .vmpl) iF sh (vcpuAt m i)) (pageOn g (written (m .vmpl) (handed (vcpuAt m i)) p) p)
-unfolding doHandBack handBackOn pageOn
-do-handBack (refuse c) m i p iF sh = kept m i _ p
-do-handBack accept m i p iF sh = refl
+unfolding effect concluded withVcpu withRegistrations handBackOn pageOn
+by-handBack (refuse c) m i p iF sh = kept m i c p
+by-handBack accept m i p iF sh = refl
 
 module _ (m : Module) (i : ℕ) (h : i < size m) where
   pub lift-notice : (p : List ℕ)
-      → step m (notice i p)
-      ≡ onRecord m i (noticeOn (vcpuVerdict 0 (vcpuAt m i) (notice 0 p)) (admitted (m .vmpl) (vcpuAt m i .allowed) p) (vcpuAt m i))
-      (pageOn (vcpuVerdict 0 (vcpuAt m i) (notice 0 p)) (noticedPage (m .vmpl) p) p)
+      → step m (at i (notice p))
+      ≡ onRecord m i (noticeOn (vcpuVerdict 0 0 (vcpuAt m i) (notice p)) (admitted (m .vmpl) (vcpuAt m i .allowed) p) (vcpuAt m i))
+      (pageOn (vcpuVerdict 0 0 (vcpuAt m i) (notice p)) (noticedPage (m .vmpl) p) p)
   unfolding step vcpuVerdict
-  lift-notice p = rw (known m (notice i p) h) (do-notice _ (admitted (m .vmpl) (vcpuAt m i .allowed) p) m i p)
+  lift-notice p = rw (known m i (notice p) h) (by-notice _ m i p)
 
   pub lift-entry : (iF sh bl : Bool)
-      → step m (entry i iF sh bl)
-      ≡ onRecord m i (entryOn (vcpuVerdict 0 (vcpuAt m i) (entry 0 iF sh bl)) (offer iF sh bl (vcpuAt m i)) (vcpuAt m i)) []
+      → step m (at i (entry iF sh bl))
+      ≡ onRecord m i (entryOn (vcpuVerdict 0 0 (vcpuAt m i) (entry iF sh bl)) (offer iF sh bl (vcpuAt m i)) (vcpuAt m i)) []
   unfolding step vcpuVerdict
-  lift-entry iF sh bl = rw (known m (entry i iF sh bl) h) (do-entry _ (offer iF sh bl (vcpuAt m i)) m i)
+  lift-entry iF sh bl = rw (known m i (entry iF sh bl) h) (by-entry _ m i iF sh bl)
 
   pub lift-nonDelivery :
-      step m (nonDelivery i)
-      ≡ onRecord m i (nonDeliveryOn (vcpuVerdict 0 (vcpuAt m i) (nonDelivery 0)) (vcpuAt m i .flight) (vcpuAt m i)) []
+      step m (at i nonDelivery)
+      ≡ onRecord m i (nonDeliveryOn (vcpuVerdict 0 0 (vcpuAt m i) nonDelivery) (flying (vcpuAt m i .flight)) (vcpuAt m i)) []
   unfolding step vcpuVerdict
-  lift-nonDelivery = rw (known m (nonDelivery i) h) (do-nonDelivery _ (vcpuAt m i .flight) m i)
+  lift-nonDelivery = rw (known m i nonDelivery h) (by-nonDelivery _ m i)
 
   pub lift-handBack : (p : List ℕ) (iF sh : Bool)
-      → step m (handBack i p iF sh)
-      ≡ onRecord m i (handBackOn (vcpuVerdict 0 (vcpuAt m i) (handBack 0 p iF sh)) (m .vmpl) iF sh (vcpuAt m i))
-      (pageOn (vcpuVerdict 0 (vcpuAt m i) (handBack 0 p iF sh)) (written (m .vmpl) (handed (vcpuAt m i)) p) p)
+      → step m (at i (handBack p iF sh))
+      ≡ onRecord m i (handBackOn (vcpuVerdict 0 0 (vcpuAt m i) (handBack p iF sh)) (m .vmpl) iF sh (vcpuAt m i))
+      (pageOn (vcpuVerdict 0 0 (vcpuAt m i) (handBack p iF sh)) (written (m .vmpl) (handed (vcpuAt m i)) p) p)
   unfolding step vcpuVerdict
-  lift-handBack p iF sh = rw (known m (handBack i p iF sh) h) (do-handBack _ m i p iF sh)
+  lift-handBack p iF sh = rw (known m i (handBack p iF sh) h) (by-handBack _ m i p iF sh)
 
 -- ---- a guest call
 -- the caller's record and the count after a call
 abbrev pub called : Module → ℕ → CallOut → Module
 called m i o = withRegistrations (o .registrations) (withVcpu m i (o .vcpu))
 
-called-same : (m : Module) (i : ℕ) → withRegistrations (m .registrations) (withVcpu m i (vcpuAt m i)) ≡ m
-unfolding withRegistrations
-called-same m i = ap (λ (a : Module). record { n = a .n; vmpl = a .vmpl; registrations = m .registrations; vcpus = a .vcpus }) (put-same m i)
+-- a call that asks for r, by the verdict
+abbrev byRequest : Verdict → Request → Module → ℕ → Out
+byRequest accept r m i = concluded (callEffect r i (m .registrations) (vcpuAt m i)) i m
+byRequest (refuse c) r m i = refusal c m []
+
+by-call : (g : Verdict) (m : Module) (i op c x : ℕ) → decided g m (at i (call op c x)) ≡ byRequest g (requestOf op c x) m i
+unfolding effect
+by-call accept m i op c x = refl
+by-call (refuse d) m i op c x = refl
 
 -- a call that sends nothing
-do-local : (g : Verdict) (r : Request) (m : Module) (i : ℕ) → callOn g r i (m .registrations) (vcpuAt m i) .sends ≡ false
-    → doCall g r m i
+by-local : (g : Verdict) (r : Request) (m : Module) (i : ℕ) → callOn g r i (m .registrations) (vcpuAt m i) .sends ≡ false
+    → byRequest g r m i
     ≡ record {
       result = callOn g r i (m .registrations) (vcpuAt m i) .result;
       after = called m i (callOn g r i (m .registrations) (vcpuAt m i));
       page = [];
     }
-unfolding doCall callOn
-do-local (refuse c) r m i e = ap (λ (a : Module). record { result = refused (codeOf c); after = a; page = [] }) (sym (called-same m i))
-do-local accept (request.Local o) m i e = refl
-do-local accept (request.Icr x) m i e = clash (cc)
-do-local accept (request.Refused c) m i e = ap (λ (a : Module). record { result = refused (codeOf c); after = a; page = [] }) (sym (called-same m i))
+unfolding callEffect concluded callOn
+by-local (refuse c) r m i e = kept m i c [] ∙ ap (λ (a : Module). record { result = refused (codeOf c); after = a; page = [] }) (sym (count-same m i (vcpuAt m i)))
+by-local accept (request.Local o) m i e = refl
+by-local accept (request.Icr x) m i e = clash (cc)
+by-local accept (request.Refused c) m i e = refl
 
 -- ---- an IPI
 -- the bits below k + 1, from those below k
@@ -272,8 +277,8 @@ module _ (i x : ℕ) (m : Module) (whole : size m ≤ length (m .vcpus)) where
       rw (lt-ltb k 32 (omega arith), lt-ltb k (suc k) (omega arith), lt-ltb k (size m) h) (pick (hits (icrTarget x) i k && isActive (vcpuAt m k .phase)))
     where
       pick : (t : Bool)
-          → cond {A = VcpuSent} t (record { mask = bitOr b (2 ^ k); vcpu = post (icrItem x) (vcpuAt m k) }) (record { mask = b; vcpu = vcpuAt m k }) .vcpu
-          ≡ cond t (post (icrItem x) (vcpuAt m k)) (vcpuAt m k)
+          → cond {A = VcpuSent} t (record { mask = bitOr b (2 ^ k); vcpu = mark (icrItem x) (vcpuAt m k) }) (record { mask = b; vcpu = vcpuAt m k }) .vcpu
+          ≡ cond t (mark (icrItem x) (vcpuAt m k)) (vcpuAt m k)
       pick true = refl
       pick false = refl
 
@@ -284,7 +289,7 @@ module _ (i x : ℕ) (m : Module) (whole : size m ≤ length (m .vcpus)) where
       rw (lt-ltb k 32 (omega arith)) (pick (hits (icrTarget x) i k && isActive (vcpuAt m k .phase)) (rw (lt-ltb k (size m) h)))
     where
       pick : (t : Bool) → reaches k ≡ t
-          → cond {A = VcpuSent} t (record { mask = bitOr (bits reaches 0 k) (2 ^ k); vcpu = post (icrItem x) (vcpuAt m k) }) (record { mask = bits reaches 0 k; vcpu = vcpuAt m k }) .mask
+          → cond {A = VcpuSent} t (record { mask = bitOr (bits reaches 0 k) (2 ^ k); vcpu = mark (icrItem x) (vcpuAt m k) }) (record { mask = bits reaches 0 k; vcpu = vcpuAt m k }) .mask
           ≡ bits reaches 0 (suc k)
       pick true e = bits-more reaches k e
       pick false e = bits-less reaches k e
@@ -331,8 +336,8 @@ module _ (i x : ℕ) (m : Module) (whole : size m ≤ length (m .vcpus)) where
   upTo-all j v = pick (ltb j (size m))
     where
       pick : (t : Bool)
-          → cond t (cond (t && hits (icrTarget x) i j && isActive (v .phase)) (post (icrItem x) v) v) v
-          ≡ cond (t && hits (icrTarget x) i j && isActive (v .phase)) (post (icrItem x) v) v
+          → cond t (cond (t && hits (icrTarget x) i j && isActive (v .phase)) (mark (icrItem x) v) v) v
+          ≡ cond (t && hits (icrTarget x) i j && isActive (v .phase)) (mark (icrItem x) v) v
       pick true = refl
       pick false = refl
 
@@ -377,7 +382,7 @@ only-value x r =
     either x (eqb r 0x80B) _ _ (either x (eqb x 0) _ _ (only-local x _) (only-refused x _))
     (either x (eqb r 0x83F) _ _ (either x (isVector x) _ _ (only-local x _) (only-refused x _))
     (either x (eqb r 0x808) _ _ (either x (leb x 255) _ _ (only-local x _) (only-refused x _))
-    (either x (icrLegal x) _ _ (only-icr x) (only-refused x _))))
+    (either x (eqb r 0x830) _ _ (either x (icrLegal x) _ _ (only-icr x) (only-refused x _)) (only-refused x _))))
 
 only-write : (k : Kind) (r x : ℕ) → SendsOnly x (writeBy k r x)
 only-write kind.None r x = only-refused x _
@@ -435,35 +440,30 @@ sent-by m i x w e whole h =
     (rw z at (all-sent i x (withVcpu m i w) s))
     ∙ ap (λ (b : ℕ). record { mask = b; after = sent (icrItem x) (icrTarget x) i (withVcpu m i w) }) (same-reached m i w (icrTarget x) e h)
 
-call-back : (m : Module) (i : ℕ) (w : Vcpu) → withRegistrations (m .registrations) (withVcpu m i w) ≡ withVcpu m i w
-unfolding withRegistrations withVcpu
-call-back m i w = refl
-
--- what sending from the module a gives
-abbrev pub delivered : Sending → Out
-delivered s = record { result = done (s .mask); after = s .after; page = [] }
-
-do-send : (g : Verdict) (r : Request) (m : Module) (i x : ℕ) → SendsOnly x r → size m ≤ length (m .vcpus) → i < length (m .vcpus)
+by-send : (g : Verdict) (r : Request) (m : Module) (i x : ℕ) → SendsOnly x r → size m ≤ length (m .vcpus) → i < length (m .vcpus)
     → callOn g r i (m .registrations) (vcpuAt m i) .sends ≡ true
-    → doCall g r m i ≡ delivered (sendBelow i x (called m i (callOn g r i (m .registrations) (vcpuAt m i))) (size m))
-unfolding doCall callOn SendsOnly
-do-send (refuse c) r m i x o w h e = clash (cc)
-do-send accept (request.Local l) m i x o w h e = clash (cc)
-do-send accept (request.Refused c) m i x o w h e = clash (cc)
-do-send accept (request.Icr y) m i x o w h e =
+    → byRequest g r m i ≡ delivered (sendBelow i x (called m i (callOn g r i (m .registrations) (vcpuAt m i))) (size m))
+unfolding callEffect concluded callOn SendsOnly
+by-send (refuse c) r m i x o w h e = clash (cc)
+by-send accept (request.Local l) m i x o w h e = clash (cc)
+by-send accept (request.Refused c) m i x o w h e = clash (cc)
+by-send accept (request.Icr y) m i x o w h e =
     let d : y ≡ x = o y refl in
-    rw (d, call-back m i (withIcr x (forget (vcpuAt m i))))
+    rw (d, count-same m i (withIcr x (forget (vcpuAt m i))))
     (sym (ap delivered (sent-by m i x (withIcr x (forget (vcpuAt m i))) refl w h)))
 
 module _ (m : Module) (i : ℕ) (h : i < size m) (whole : size m ≤ length (m .vcpus)) (op c x : ℕ) where
+  abbrev judged : Verdict
+  judged = vcpuVerdict i (m .registrations) (vcpuAt m i) (call op c x)
+
   -- what the call gives the caller's record and the count
   abbrev pub callStep : CallOut
-  callStep = callOn (vcpuVerdict (m .registrations) (vcpuAt m i) (call i op c x)) (requestOf op c x) i (m .registrations) (vcpuAt m i)
+  callStep = callOn judged (requestOf op c x) i (m .registrations) (vcpuAt m i)
 
-  pub lift-local : callStep .sends ≡ false → step m (call i op c x) ≡ record { result = callStep .result; after = called m i callStep; page = [] }
+  pub lift-local : callStep .sends ≡ false → step m (at i (call op c x)) ≡ record { result = callStep .result; after = called m i callStep; page = [] }
   unfolding step
-  lift-local e = rw (known m (call i op c x) h) (do-local _ (requestOf op c x) m i e)
+  lift-local e = rw (known m i (call op c x) h) (by-call judged m i op c x ∙ by-local judged (requestOf op c x) m i e)
 
-  pub lift-send : callStep .sends ≡ true → step m (call i op c x) ≡ delivered (sendBelow i x (called m i callStep) (size m))
+  pub lift-send : callStep .sends ≡ true → step m (at i (call op c x)) ≡ delivered (sendBelow i x (called m i callStep) (size m))
   unfolding step
-  lift-send e = rw (known m (call i op c x) h) (do-send _ (requestOf op c x) m i x (sends-only op c x) whole (omega arith) e)
+  lift-send e = rw (known m i (call op c x) h) (by-call judged m i op c x ∙ by-send judged (requestOf op c x) m i x (sends-only op c x) whole (omega arith) e)

@@ -2,7 +2,7 @@
 
 use std::io::{BufRead, Result};
 
-/// Readable lines have at most this many bytes, the newline not counted.
+/// The length of the longest readable line, without its newline.
 pub const LONGEST: usize = 65_536;
 
 pub struct Lines<R> {

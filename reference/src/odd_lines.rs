@@ -146,7 +146,7 @@ fn respelt(r: &mut Random, value: u64) -> String {
     }
 }
 
-/// The bytes backwards, some of them told twice: the last one counts.
+/// The bytes backwards, some of them told twice, with the right one later.
 fn page_words(r: &mut Random, page: &[u8]) -> String {
     let mut words = String::new();
     for (offset, &byte) in page.iter().enumerate().rev() {

@@ -28,7 +28,7 @@ fn one_found(f: Found) -> u32
     }
 }
 
-// The number of admitted items, the NMI counted (4.29).
+// How many items the part has; the NMI is one of them (4.29).
 pub fn items_of(a: Admitted) -> u32
     ensures { λ r. ⌜ r ≡ items (partOf a) ⌝ }
 {

@@ -73,8 +73,8 @@ fn started(n: u32, vmpl: u32) -> Module
 fn stopped() -> Module
     ensures { λ r. ⌜ r ≡ stopped ⌝ }
 {
-    let absent = bare(Phase::Left);
-    let vcpus = [absent; 32];
+    let left = bare(Phase::Left);
+    let vcpus = [left; 32];
     Module {
         n: 0,
         vmpl: 1,
@@ -83,7 +83,7 @@ fn stopped() -> Module
     }
 }
 
-// A module of n vCPUs for a guest at the VMPL; refused unless n is 1 to 32 and the VMPL 1 to 3 (3.1 to 3.6).
+// A fresh module of n vCPUs for a guest at the VMPL, or the stopped one where a number is out of range (3.1 to 3.6).
 pub fn start(n: u32, vmpl: u32) -> Stepped
     ensures { λ r. ⌜ outOf r [] ≡ doStart n vmpl ⌝ }
 {

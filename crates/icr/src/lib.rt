@@ -15,7 +15,7 @@ pub fn is_vector(v: u64) -> bool
     v <= 255
 }
 
-// Bit 14 is 1; bits 12, 13, 15, 16, 17 and 20 to 31 are 0 (7.5, 7.8).
+// The bits that have one value only (7.5, 7.8).
 fn has_fixed_bits(x: u64) -> bool
     ensures { λ r. ⌜ r ≡ icrFixedBits x ⌝ }
 {

@@ -1,4 +1,4 @@
--- Why lists that are equal but for bytes in the pages of notices, and that admit the same, give the same.
+-- Why lists that differ in bytes of notices alone, and that admit the same, give the same.
 -- Assumes nothing.
 use mathlib.Core.Path.{_≡_, refl, sym, ap, _∙_}
 use mathlib.Core.Bool.{Bool, cond}

@@ -49,7 +49,7 @@ pub mapBits-bit : (f : ℕ → Bool → Bool) (p : List ℕ) (k : ℕ) → k < 8
 unfolding mapBits
 mapBits-bit f p k h = bytesFrom-bit (λ k. f k (bitOf p k)) (length p) k h
 
--- ---- the 64 bytes from byte 64 × L on
+-- ---- the bytes that a hand-back writes
 module _ (l : ℕ) (bytes p : List ℕ) (room : 64 * l + 64 ≤ length p) (long : length bytes ≡ 64) where
   before : length (take (64 * l) p) ≡ 64 * l
   before = length-take-le (64 * l) p (omega arith)

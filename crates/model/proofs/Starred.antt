@@ -1,4 +1,4 @@
--- The worked cases marked *, computed.
+-- The worked cases, computed.
 -- Assumes nothing.
 use mathlib.Core.Path.{_≡_, refl}
 use Rattle.vector_set.specs.Bits.{bits}
@@ -9,8 +9,9 @@ use Rattle.model.specs.Doorbell.{bitOf, bytesFrom, mapBits, announces, d
 use Rattle.model.specs.Registers.{isRead, isWrite, isBoth, kindOf, pprOf, ppr, ldr, tmr, registerValue, endedAt, ended, endedLevelAt, endedLevel}
 use Rattle.model.specs.Requests.{registration, writeValue, nameable, permission, requestOf, serve, callVerdict}
 use Rattle.model.specs.Events.{noticed, offerHighest, offer, present, entered, emptied, handed, handBackResult, vcpuVerdict, verdict, callEffect, effect, concluded, step}
-use Rattle.model.specs.Cases.{cases, Starred}
+use Rattle.model.specs.Cases.{cases, further, Starred, Worked}
+use Rattle.model.specs.Ipi.{icrFixedBits, icrIsFixed, icrIsNmi, icrLegal, icrItem, icrTarget, hits, reach, mapFrom, sent, reachedBits}
 
-pub starred : Starred
-unfolding Starred cases bits has words collect empty full insert remove union difference highestBelow highest countBelow count isEmpty wordOf bare size vcpuAt started start stopped withVcpu withRegistrations mark unmark markAll unmarkAll bitOf bytesFrom mapBits announces descriptor noPart admitsNmi admitsLevel admitsEdge admits admitted items clearsBit clears noticedPage handedBit servingBit handedBytes written isRead isWrite isBoth kindOf pprOf ppr ldr tmr registerValue endedAt ended endedLevelAt endedLevel registration writeValue nameable permission requestOf serve callVerdict noticed offerHighest offer present entered emptied handed handBackResult vcpuVerdict verdict callEffect effect concluded step
-starred = refl
+pub worked : Worked
+unfolding Starred cases further icrFixedBits icrIsFixed icrIsNmi icrLegal icrItem icrTarget hits reach mapFrom sent reachedBits bits has words collect empty full insert remove union difference highestBelow highest countBelow count isEmpty wordOf bare size vcpuAt started start stopped withVcpu withRegistrations mark unmark markAll unmarkAll bitOf bytesFrom mapBits announces descriptor noPart admitsNmi admitsLevel admitsEdge admits admitted items clearsBit clears noticedPage handedBit servingBit handedBytes written isRead isWrite isBoth kindOf pprOf ppr ldr tmr registerValue endedAt ended endedLevelAt endedLevel registration writeValue nameable permission requestOf serve callVerdict noticed offerHighest offer present entered emptied handed handBackResult vcpuVerdict verdict callEffect effect concluded step
+worked = record { starred = refl; further = refl }

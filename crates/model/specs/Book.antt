@@ -99,7 +99,7 @@ permits i c w =
 unfoldable pub called : ℕ → ℕ → ℕ → Book → Book
 called i op c w = cond (eqb op 1) (registers i c w) (cond (eqb op 4) (permits i c w) w)
 
--- a hand-back on a leaving vCPU i below n (12.16)
+-- the hand-back of a vCPU i that is leaving (12.16)
 unfoldable pub leaves : ℕ → Book → Book
 leaves i w = withRecord i (record { phase = Left; allowed = empty }) w
 

@@ -87,7 +87,7 @@ badEcx op c = (eqb op 1 && ltb 2 c) || (eqb op 4 && not (nameable c))
 abbrev pub registering : ℕ → ℕ → Bool
 registering op c = eqb op 1 && eqb c 2
 
--- the causes of a call's numbers at the count k: call, register, kind, value or ECX, count (11.7 to 11.12)
+-- the causes of a call's numbers at the count k (11.7 to 11.12)
 unfoldable pub callCauses : ℕ → ℕ → ℕ → ℕ → List Cause
 callCauses k op c x =
     -- no such call

@@ -13,16 +13,16 @@ use Rattle.model.specs.Causes.{firstCause, causes, startCauses}
 pub record Demand1 : Type 0 where
   -- the code is that of the first cause that holds, and an event is accepted where none does
   pub refusals : (m : Module) (e : Event) → refusalOf (step m e .result) ≡ firstCause (causes m e)
-  -- a refused event leaves the module and the lent page as they were
+  -- where an event is refused, the module and the page are those of before
   pub unchanged : (m : Module) (e : Event) (c : ℕ) → step m e .result ≡ refused c → (step m e .after ≡ m) × (step m e .page ≡ pageOf (e .act))
   -- start
   pub starts : (n l : ℕ) → refusalOf (doStart n l .result) ≡ firstCause (startCauses n l)
   pub unstarted : (n l c : ℕ) → doStart n l .result ≡ refused c → doStart n l .after ≡ stopped
-  -- what a refused start gives: n 0, L 1, count 0, and every event on it gets code 1
+  -- what a refused start gives, and that it refuses every event
   pub none : stopped .n ≡ 0
   pub first : stopped .vmpl ≡ 1
   pub unregistered : stopped .registrations ≡ 0
   pub ended : (e : Event) → step stopped e .result ≡ refused 1
-  -- a module value with n over 32, or L not 1 to 3, refuses every event with code 1
+  -- a value that start could not have given, by its n or its L, refuses every event with code 1
   pub tooMany : (m : Module) (e : Event) → 32 < m .n → step m e .result ≡ refused 1
   pub noLevel : (m : Module) (e : Event) → within 1 3 (m .vmpl) ≡ false → step m e .result ≡ refused 1

@@ -1,4 +1,4 @@
--- Demand 2: a kernel written to the published papers runs unchanged (13.6 to 13.18). That each event's result, module and page are those of
+-- Demand 2: the gate is what kernels expect (13.6 to 13.18). That each event's result, module and page are those of
 -- `step` and `start` is said by the functions' contracts; here is what else is claimed of them.
 -- Assumes nothing.
 use mathlib.Core.Path.{_≡_}

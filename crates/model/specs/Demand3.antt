@@ -36,7 +36,7 @@ IsVector (item.Vector v) = 31 ≤ v
 
 -- ---- of lists played on any module value m
 pub record Isolated (m : Module) : Type 0 where
-  -- two lists equal but for bytes in the pages of notices that admit the same run the same
+  -- two lists that differ in bytes of notices alone, and admit the same, run the same
   pub same : (ds es : List Event) → AllAlike ds es → parts (m .vmpl) (bookOf m) ds ≡ parts (m .vmpl) (bookOf m) es
       → (results m ds ≡ results m es) × (pages m ds ≡ pages m es) × (final m ds ≡ final m es)
   -- the book has the final module's n, count, phases and allowed sets

@@ -31,7 +31,7 @@ mapBits f p = bytesFrom (λ k. f k (bitOf p k)) 0 (length p)
 abbrev pub longEnough : List ℕ → Bool
 longEnough p = leb 256 (length p)
 
--- bit 7 + L of the 16-bit word at byte 2, as a bit of the page (4.4, 4.5)
+-- bit 7 + L of InjectionInfo, which begins at byte 2, as a bit of the page (4.4, 4.5)
 abbrev pub announcingBit : ℕ → ℕ
 announcingBit l = 8 * 2 + (7 + l)
 
@@ -110,7 +110,7 @@ admitsEdge a d v =
 unfoldable pub admits : List ℕ → List ℕ → Part
 admits a d = record { nmi = admitsNmi a d; level = admitsLevel a d; edge = collect (admitsEdge a d) }
 
--- the admitted part of an accepted notice's page under the set A (4.6, 4.20)
+-- the admitted part of a page under the set A, at the VMPL l (4.6, 4.20)
 unfoldable pub admitted : ℕ → List ℕ → List ℕ → Part
 admitted l a p = cond (announces l p) (admits a (descriptor l p)) noPart
 

@@ -1,4 +1,4 @@
--- The events, and what each gives from every module value: its result, the module after it and the page after it (sections 4 to 11).
+-- The events, and what each gives from every module value (sections 4 to 11).
 -- Assumes nothing.
 use mathlib.Core.Bool.{Bool, true, false, cond, not, _&&_, _||_}
 use mathlib.Core.List.{List, [], _∷_}
@@ -85,7 +85,7 @@ offer iF sh bl v =
 abbrev pub gains : ℕ → List ℕ → List ℕ → List ℕ
 gains x s t = collect (λ v. has t v || (eqb v x && has s x))
 
--- an item is presented: a vector moves from P to S, and from PL to SL if there (8.6, 8.11, 8.12)
+-- an item is presented: a vector is then in service, and level-sensitive there if it was so while pending (8.6, 8.11, 8.12)
 unfoldable pub present : Item → Vcpu → Vcpu
 present Nmi v = unmark Nmi v
 present (Vector x) v =
@@ -98,7 +98,7 @@ entered nothing v = v
 entered (presents y) v = withFlight (flightOf y) (present y v)
 entered (window x) v = v
 
--- an item is returned: a vector moves from S to P, and from SL to PL if there (9.3 to 9.6)
+-- an item is returned: a vector is then pending, and level-sensitive there if it was so in service (9.3 to 9.6)
 unfoldable pub giveBack : Item → Vcpu → Vcpu
 giveBack Nmi v = mark Nmi v
 giveBack (Vector x) v =
@@ -241,7 +241,7 @@ outOf r p = record { result = resultOf (r .outcome); after = r .after; page = p 
 abbrev pub enteredOut : Entered → Out
 enteredOut r = record { result = presentedResult (r .presentation); after = r .after; page = [] }
 
--- ---- a list of events, each on the module that the one before it left
+-- ---- a list of events, played one after the other
 -- what each event of a list gives (12.3)
 unfoldable pub run : Module → List Event → List Out
 run m [] = []

@@ -25,7 +25,7 @@ icrVector x = x % 256
 abbrev pub icrType : ℕ → ℕ
 icrType x = x / 2 ^ 8 % 8
 
--- the shorthand: 1 self, 2 all, 3 all but self (7.6)
+-- the shorthand: 0 where the destination counts (7.6)
 abbrev pub icrShorthand : ℕ → ℕ
 icrShorthand x = x / 2 ^ 18 % 4
 

@@ -36,7 +36,7 @@ unfoldable pub struck : List Event → List Event
 struck [] = []
 struck (e ∷ es) = keepUnless (noticePage (e .act)) e (struck es)
 
--- events, and lists, that are equal but for bytes in the pages of notices, page lengths alike (13.20)
+-- events that differ at most in the bytes of a notice's page, not in its length (13.20)
 pub data Alike : Event → Event → Type 0 where
   same : {e : Event} → Alike e e
   notices : {i : ℕ} {p q : Bytes} → length p ≡ length q → Alike (at i (notice p)) (at i (notice q))

@@ -74,7 +74,7 @@ endedAt (some x) v = withIsrLevel (remove x (v .«isr_level»)) (withIsr (remove
 unfoldable pub ended : Vcpu → Vcpu
 ended v = endedAt (highest (v .isr)) v
 
--- the vector that is named for an explicit EOI to the host, or 0 (6.26 to 6.28)
+-- the vector whose EOI the host is owed, or 0 (6.26 to 6.28)
 unfoldable pub endedLevelAt : Option ℕ → List ℕ → ℕ
 endedLevelAt none level = 0
 endedLevelAt (some x) level = cond (has level x) x 0

@@ -14,7 +14,7 @@ use model::Phase;
 use model::Refusal;
 use model::Vcpu;
 
-// The five sets and the NMI mark emptied, the phase left (10.13, 10.14).
+// The record once it is handed back: nothing in its sets, no mark, left (10.13, 10.14).
 pub fn empty_vcpu(v: Vcpu) -> Vcpu
     ensures { λ r. ⌜ r ≡ emptied v ⌝ }
 {

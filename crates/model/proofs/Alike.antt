@@ -1,15 +1,15 @@
 -- Why lists that differ in bytes of notices alone, and that admit the same, give the same.
 -- Assumes nothing.
 use mathlib.Core.Path.{_≡_, refl, sym, ap, _∙_}
-use mathlib.Core.Bool.{Bool, cond}
-use mathlib.Core.List.{List, [], _∷_}
+use mathlib.Core.Bool.{cond}
+use mathlib.Core.List.{List, _∷_}
 use Prim.Native.Nat.{ℕ}
 use lib.ListN.{length}
 use Rattle.model.specs.declared.Module.{Module}
 use Rattle.model.specs.State.{vcpuAt}
 use Rattle.model.specs.Codes.{Verdict, accept, refuse}
-use Rattle.model.specs.Doorbell.{Part, admitted, items, noticedPage}
-use Rattle.model.specs.Events.{notice, at, Bytes, Event, vcpuVerdict, verdict, effect, Out, concluded, decided, step, next, run, final}
+use Rattle.model.specs.Doorbell.{admitted}
+use Rattle.model.specs.Events.{notice, at, Bytes, Event, vcpuVerdict, verdict, effect, concluded, decided, step, next, run, final}
 use Rattle.model.specs.Causes.{isHandBack}
 use Rattle.model.specs.Book.{note, bookOf, partBy, parts}
 use Rattle.model.specs.Lists.{results, handBackPages, pages, Alike, same, notices, AllAlike, neither, both}

@@ -1,6 +1,6 @@
 -- Why no item is presented more often than it was pending at first, admitted, sent and returned: an item that is pending has not been presented yet.
 -- Assumes nothing.
-use mathlib.Core.Path.{_≡_, refl, sym, ap, _∙_}
+use mathlib.Core.Path.{_≡_, refl, ap, _∙_}
 use mathlib.Core.Bool.{Bool, true, false, cond, not, _&&_, _||_}
 use mathlib.Core.List.{List, [], _∷_}
 use mathlib.Core.Option.{Option, none, some}
@@ -8,7 +8,6 @@ use Prim.Native.Nat.{ℕ, _+_, _-_, _≤_}
 use native.Mathlib.Omega.{arith}
 use lib.Dec.{ltb, leb, eqb}
 use borrow.Author.Tests.{eqb-true}
-use Rattle.model.specs.declared.InFlight.{InFlight}
 use Rattle.model.specs.declared.InFlight.the-variants as flight
 use Rattle.model.specs.declared.Item.{Item}
 use Rattle.model.specs.declared.Item.the-variants as item
@@ -24,23 +23,23 @@ use Rattle.model.specs.declared.Request.{Request}
 use Rattle.model.specs.declared.Request.the-variants as request
 use Rattle.model.specs.declared.Vcpu.{Vcpu}
 use Rattle.model.specs.declared.Module.{Module}
-use Rattle.model.specs.State.{isActive, isLeaving, size, vcpuAt, withVcpu, withRegistrations, withIcr, withFlight}
-use Rattle.model.specs.Codes.{codeOf, Verdict, accept, refuse, Answer, nothing, presents, window, Result, done, answers, refused, accepted, presentedIn}
+use Rattle.model.specs.State.{isActive, size, vcpuAt, withVcpu, withIcr}
+use Rattle.model.specs.Codes.{codeOf, accept, refuse, Answer, nothing, presents, window, Result, refused, accepted, presentedIn}
 use Rattle.model.specs.Items.{InRange, sameItem, isItem, flying, flightOf, pending, mark, unmarkAll}
-use Rattle.model.specs.Doorbell.{isVector, Part, inPart, noPart, admitted}
+use Rattle.model.specs.Doorbell.{isVector, Part, inPart, admitted}
 use Rattle.model.specs.Registers.{class, ppr, kindOf, endedAt, ended}
-use Rattle.model.specs.Ipi.{icrLegal, icrItem, icrTarget, hits, reached, reach, sent}
+use Rattle.model.specs.Ipi.{icrLegal, icrItem, icrTarget, hits, reach, sent}
 use Rattle.model.specs.Requests.{bad, registration, readBy, writeValue, writeBy, nameable, permission, requestOf, forget, leaveIf, serve}
-use Rattle.model.specs.Events.{Act, notice, call, entry, nonDelivery, handBack, at, Bytes, Event, pageOf, noticed, offerHighest, offer, present, entered, giveBack, undelivered, emptied, verdict, callEffect, effect, concluded, refusal, Out, step, next, run}
-use Rattle.model.specs.Book.{Book, recordAt, bookOf, partOn, partBy, note, feed}
+use Rattle.model.specs.Events.{Act, notice, call, entry, nonDelivery, handBack, at, Bytes, Event, noticed, offerHighest, offer, present, entered, giveBack, undelivered, emptied, verdict, callEffect, effect, concluded, step, next, run}
+use Rattle.model.specs.Book.{Book, recordAt, bookOf, partOn, partBy}
 use Rattle.model.specs.Lists.{results}
 use Rattle.model.specs.Ledger.{Ledger, tally, addAdmitted, addSent, addPresented, addReturned, withLatest, reaches, writeSends, postAct, ledger, opened, ledgerOf}
 use Rattle.vector_set.specs.Bits.{one, bitAt}
-use Rattle.vector_set.specs.Sets.{has, highest}
+use Rattle.vector_set.specs.Sets.{highest}
 use Rattle.vector_set.proofs.Laws.{clash, highest-has}
 use Rattle.model.proofs.Tests.{and-true, and-false}
-use Rattle.model.proofs.Stored.{on-put, vcpuAt-count, size-put, size-count, count-same, vcpuAt-sent, by-verdict, Known, known-of}
-use Rattle.model.proofs.ItemLaws.{pending-mark, rest-mark, pending-unmark, rest-unmark, pending-markAll, rest-markAll, pending-unmarkAll}
+use Rattle.model.proofs.Stored.{on-put, vcpuAt-count, size-put, count-same, vcpuAt-sent, by-verdict, Known, known-of}
+use Rattle.model.proofs.ItemLaws.{pending-mark, rest-mark, pending-unmark, pending-markAll, rest-markAll, pending-unmarkAll}
 use Rattle.model.proofs.Follow.{record-book, part-accepted, part-refused, follow, vmpl-next}
 use Rattle.model.proofs.Allowed.{none-in}
 

@@ -2,7 +2,7 @@
 -- Assumes nothing.
 use mathlib.Core.Path.{_≡_, refl, sym, ap, _∙_}
 use mathlib.Core.Bool.{Bool, true, false, cond, not, _&&_}
-use mathlib.Core.List.{List, [], _∷_}
+use mathlib.Core.List.{[], _∷_}
 use mathlib.Core.Option.{Option, none, some}
 use Prim.Native.Nat.{ℕ, zero, suc, _%_, _≤_, _<_}
 use native.Mathlib.Omega.{arith}
@@ -12,7 +12,7 @@ use borrow.Author.Tests.{leb-false, eqb-true, lt-ltb, le-ltb, lt-leb, ne-eqb}
 use Rattle.model.specs.declared.Kind.{Kind}
 use Rattle.model.specs.declared.Kind.the-variants as kind
 use Rattle.model.specs.declared.Refusal.{Refusal}
-use Rattle.model.specs.declared.Refusal.the-variants.{UnknownVcpu, ShortPage, NotLeaving, NothingInFlight, NotActive, BadRegister, BadParameter, RegistrationsFull, NotRegistered}
+use Rattle.model.specs.declared.Refusal.the-variants.{UnknownVcpu, ShortPage, NotLeaving, NothingInFlight, NotActive, BadParameter, RegistrationsFull, NotRegistered}
 use Rattle.model.specs.declared.Local.the-variants as local
 use Rattle.model.specs.declared.Request.{Request}
 use Rattle.model.specs.declared.Request.the-variants as request
@@ -24,7 +24,7 @@ use Rattle.model.specs.Doorbell.{isVector}
 use Rattle.model.specs.Registers.{within, isRead, isWrite, isBoth, kindOf}
 use Rattle.model.specs.Ipi.{icrLegal}
 use Rattle.model.specs.Requests.{registration, readBy, writeBy, writeValue, nameable, permission, requestOf, forget, serve, callVerdict}
-use Rattle.model.specs.Events.{Act, notice, call, entry, nonDelivery, handBack, at, Bytes, Event, pageOf, vcpuVerdict, verdict, callEffect, effect, effectOf, concluded, refusal, Out, step, next, startResult, doStart}
+use Rattle.model.specs.Events.{Act, notice, call, entry, nonDelivery, handBack, at, Bytes, Event, pageOf, vcpuVerdict, verdict, callEffect, effect, effectOf, concluded, Out, step, next, startResult, doStart}
 use Rattle.model.specs.Causes.{cause, firstCause, inTable, badValue, badEcx, isKindNone, isKindRead, isKindWrite, callCauses, causes, startCauses}
 use Rattle.model.specs.Demand1.{Demand1}
 use Rattle.vector_set.specs.Bits.{bitAt}

@@ -2,8 +2,8 @@
 -- Assumes nothing.
 use mathlib.Core.Path.{_≡_, refl, subst}
 use mathlib.Core.Bool.{Bool, true, false, cond, _&&_}
-use mathlib.Core.List.{List, map}
-use Prim.Native.Nat.{ℕ, _+_, _≤_}
+use mathlib.Core.List.{List}
+use Prim.Native.Nat.{ℕ, _≤_}
 use native.Mathlib.Omega.{arith}
 use lib.Dec.{leb}
 use Rattle.model.specs.declared.Phase.{Phase}
@@ -11,12 +11,10 @@ use Rattle.model.specs.declared.Item.{Item}
 use Rattle.model.specs.declared.Item.the-variants as item
 use Rattle.model.specs.declared.Module.{Module}
 use Rattle.model.specs.State.{bare, size, vcpuAt, started, stopped, start}
-use Rattle.model.specs.Codes.{accept, refuse}
 use Rattle.model.specs.Items.{InRange, pending}
-use Rattle.model.specs.Doorbell.{items, admitted}
-use Rattle.model.specs.Events.{notice, at, Bytes, Event, effect, concluded, Out, step, final}
-use Rattle.model.specs.Book.{bookOf, feedAll, note, partBy}
-use Rattle.model.specs.Ledger.{ledgerOf}
+use Rattle.model.specs.Doorbell.{admitted}
+use Rattle.model.specs.Events.{notice, at, Bytes, Event, effect, concluded, step, final}
+use Rattle.model.specs.Book.{bookOf, partBy}
 use Rattle.model.specs.Demand3.{bookAfter, Exact, FromAny, Demand3}
 use Rattle.vector_set.specs.Bits.{one}
 use Rattle.vector_set.proofs.Laws.{has-empty}

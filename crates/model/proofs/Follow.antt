@@ -18,7 +18,7 @@ use Rattle.model.specs.declared.Target.{Target}
 use Rattle.model.specs.declared.Kind.{Kind}
 use Rattle.model.specs.declared.Kind.the-variants as kind
 use Rattle.model.specs.declared.Refusal.{Refusal}
-use Rattle.model.specs.declared.Refusal.the-variants.{UnknownVcpu, ShortPage, NotLeaving, NotActive, RegistrationsFull, NotRegistered, BadRegister}
+use Rattle.model.specs.declared.Refusal.the-variants.{UnknownVcpu, ShortPage, NotLeaving, NotActive, RegistrationsFull, NotRegistered}
 use Rattle.model.specs.declared.Local.{Local}
 use Rattle.model.specs.declared.Local.the-variants as local
 use Rattle.model.specs.declared.Request.{Request}
@@ -32,8 +32,8 @@ use Rattle.model.specs.Doorbell.{longEnough, isVector, Part, noPart, adm
 use Rattle.model.specs.Registers.{kindOf, endedAt, ended}
 use Rattle.model.specs.Ipi.{icrLegal, icrItem, icrTarget, reached, reach, mapFrom, sent}
 use Rattle.model.specs.Requests.{bad, registration, readBy, writeValue, writeBy, nameable, permission, requestOf, forget, leaveIf, serve, callVerdict}
-use Rattle.model.specs.Events.{Act, notice, call, entry, nonDelivery, handBack, at, Bytes, Event, noticed, offer, present, entered, giveBack, undelivered, emptied, vcpuVerdict, verdict, Reply, gives, sends, callEffect, effect, effectOf, deliver, store, concluded, step, next, final}
-use Rattle.model.specs.Book.{note, BookRecord, Book, Note, recordOf, bookOf, recordAt, withRecord, withCount, withPhase, leavesAtZero, takesOne, addsOne, registers, permits, called, leaves, feedAct, feed, feedAll, noticePage, partOn, partBy}
+use Rattle.model.specs.Events.{Act, notice, call, entry, nonDelivery, handBack, at, Bytes, Event, noticed, offer, present, entered, giveBack, undelivered, emptied, vcpuVerdict, verdict, Reply, gives, sends, callEffect, effect, effectOf, deliver, concluded, next, final}
+use Rattle.model.specs.Book.{note, BookRecord, Book, Note, recordOf, bookOf, recordAt, withRecord, withCount, withPhase, leavesAtZero, takesOne, addsOne, registers, permits, called, leaves, feedAct, feed, feedAll, partOn, partBy}
 use Rattle.model.specs.Lists.{struck}
 use Rattle.vector_set.specs.Bits.{bitAt}
 use Rattle.vector_set.specs.Sets.{empty, insert, remove}

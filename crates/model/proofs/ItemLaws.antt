@@ -1,9 +1,7 @@
 -- The laws of what is pending, by item: what each change makes pending, and that it leaves all else.
 -- Assumes nothing.
 use mathlib.Core.Path.{_≡_, refl}
-use mathlib.Core.Bool.{Bool, true, false, not, _&&_, _||_}
-use Prim.Native.Nat.{ℕ}
-use lib.Dec.{eqb}
+use mathlib.Core.Bool.{Bool, false, not, _&&_, _||_}
 use Rattle.model.specs.declared.Item.{Item}
 use Rattle.model.specs.declared.Item.the-variants.{Nmi, Vector}
 use Rattle.model.specs.declared.Vcpu.{Vcpu}

@@ -1,6 +1,6 @@
 -- What an event keeps, of every module value: the members of PL under a request, and the record of a vCPU that is not active.
 -- Assumes nothing.
-use mathlib.Core.Path.{_≡_, refl, sym, ap, _∙_, subst}
+use mathlib.Core.Path.{_≡_, refl, ap, _∙_}
 use mathlib.Core.Bool.{Bool, true, false, cond, _&&_, _||_}
 use mathlib.Core.List.{List}
 use mathlib.Core.Option.{Option, none, some}
@@ -15,20 +15,18 @@ use Rattle.model.specs.declared.Request.{Request}
 use Rattle.model.specs.declared.Request.the-variants as request
 use Rattle.model.specs.declared.Vcpu.{Vcpu}
 use Rattle.model.specs.declared.Module.{Module}
-use Rattle.model.specs.State.{isActive, size, vcpuAt, withVcpu}
-use Rattle.model.specs.Codes.{accept}
+use Rattle.model.specs.State.{isActive, size, vcpuAt}
 use Rattle.model.specs.Doorbell.{Part, isLevel, admitted}
 use Rattle.model.specs.Registers.{endedAt, ended}
 use Rattle.model.specs.Ipi.{icrItem, icrTarget, hits, reach}
 use Rattle.model.specs.Items.{mark}
 use Rattle.model.specs.Requests.{requestOf, forget, leaveIf, serve}
-use Rattle.model.specs.Events.{Act, notice, call, entry, nonDelivery, handBack, at, Bytes, Event, noticed, verdict, Reply, gives, sends, callEffect, effect, effectOf, store, deliver, concluded, step, next}
+use Rattle.model.specs.Events.{Act, notice, call, entry, nonDelivery, handBack, Bytes, Event, noticed, Reply, gives, sends, callEffect, effect, effectOf, store, deliver, concluded, next}
 use Rattle.model.specs.Causes.{isHandBack}
 use Rattle.model.specs.Demand2.{isRequest}
 use Rattle.vector_set.specs.Sets.{has, highest}
 use Rattle.vector_set.proofs.Laws.{clash, has-collect}
-use Rattle.model.proofs.Tests.{and-false}
-use Rattle.model.proofs.Stored.{on-put, vcpuAt-count, vcpuAt-sent, by-verdict, Known, known-of, servedIn}
+use Rattle.model.proofs.Stored.{on-put, vcpuAt-count, vcpuAt-sent, by-verdict, known-of, servedIn}
 use Rattle.model.proofs.ItemLaws.{rest-mark}
 
 -- ---- a request takes no vector out of PL

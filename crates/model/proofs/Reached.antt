@@ -1,6 +1,6 @@
 -- Why every record of a module that events reach from what start gives is sound.
 -- Assumes nothing.
-use mathlib.Core.Path.{_≡_, refl, sym, ap, _∙_}
+use mathlib.Core.Path.{_≡_, refl, sym, _∙_}
 use mathlib.Core.Bool.{Bool, true, false, cond, not, _&&_, _||_}
 use mathlib.Core.List.{List, [], _∷_, _++_}
 use mathlib.Core.Option.{Option, none, some}
@@ -24,21 +24,21 @@ use Rattle.model.specs.declared.Request.{Request}
 use Rattle.model.specs.declared.Request.the-variants as request
 use Rattle.model.specs.declared.Vcpu.{Vcpu}
 use Rattle.model.specs.declared.Module.{Module}
-use Rattle.model.specs.State.{isActive, isLeaving, bare, fresh, absent, size, vcpuAt, mayStart, started, stopped, start, withVcpu, withRegistrations, withIcr}
-use Rattle.model.specs.Codes.{accept, Answer, nothing, presents, window}
+use Rattle.model.specs.State.{isActive, isLeaving, bare, fresh, absent, size, vcpuAt, mayStart, started, stopped, start, withVcpu, withRegistrations}
+use Rattle.model.specs.Codes.{Answer, nothing, presents, window}
 use Rattle.model.specs.Items.{flying, mark, unmark, markAll, unmarkAll}
 use Rattle.model.specs.Doorbell.{isVector, Part, isLevel, inPart, admitted}
 use Rattle.model.specs.Registers.{kindOf, ppr, class, endedAt, ended}
 use Rattle.model.specs.Ipi.{icrVector, icrType, icrShorthand, icrIsFixed, icrIsNmi, icrFixedBits, icrLegal, icrItem, icrTarget, reached, reach, mapFrom, sent}
 use Rattle.model.specs.Requests.{registration, readBy, writeValue, writeBy, mayName, nameable, permission, requestOf, forget, leaveIf, serve}
-use Rattle.model.specs.Events.{Act, notice, call, entry, nonDelivery, handBack, at, Bytes, Event, noticed, offerHighest, offer, gains, present, entered, giveBack, undelivered, emptied, verdict, Reply, gives, sends, callEffect, effect, effectOf, concluded, deliver, store, step, next, final}
+use Rattle.model.specs.Events.{Act, notice, call, entry, nonDelivery, handBack, Bytes, Event, noticed, offerHighest, offer, gains, present, entered, giveBack, undelivered, emptied, Reply, gives, sends, callEffect, effect, effectOf, concluded, deliver, next, final}
 use Rattle.model.specs.Reached.{Levelled, Sound}
 use Rattle.model.specs.Demand3.{IsVector}
 use Rattle.vector_set.specs.Bits.{bitAt}
 use Rattle.vector_set.specs.Sets.{Words, has, collect, empty, insert, remove, highest}
 use Rattle.vector_set.proofs.Laws.{clash, has-collect, has-empty, has-insert, has-remove, collect-words, words-empty, words-insert, words-remove, highest-has}
 use Rattle.model.proofs.Tests.{or-true, eqb-below}
-use Rattle.model.proofs.Stored.{by-verdict, Known, known-of, servedIn}
+use Rattle.model.proofs.Stored.{by-verdict, known-of, servedIn}
 use Rattle.model.proofs.Allowed.{is-vector, and-left, admitted-fits}
 
 -- ---- sets by their members

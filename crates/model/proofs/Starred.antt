@@ -1,6 +1,6 @@
 -- The worked cases, computed.
 -- Assumes nothing.
-use mathlib.Core.Path.{_≡_, refl}
+use mathlib.Core.Path.{refl}
 use Rattle.vector_set.specs.Bits.{bits}
 use Rattle.vector_set.specs.Sets.{has, words, collect, empty, full, insert, remove, union, difference, highestBelow, highest, countBelow, count, isEmpty, wordOf}
 use Rattle.model.specs.State.{bare, size, vcpuAt, started, start, stopped, withVcpu, withRegistrations}

@@ -1,28 +1,26 @@
 -- A module's record after one was stored and after an IPI, and the step of an event by its verdict: the laws on which all claims stand.
 -- Assumes nothing.
-use mathlib.Core.Path.{_≡_, refl, sym, ap, subst}
-use mathlib.Core.Bool.{Bool, true, false, cond, _&&_}
+use mathlib.Core.Path.{_≡_, refl, sym, subst}
+use mathlib.Core.Bool.{Bool, true, false, _&&_}
 use mathlib.Core.List.{List, [], _∷_}
 use Prim.Native.Nat.{ℕ, zero, suc, _+_, _<_}
 use native.Mathlib.Omega.{arith}
 use lib.Dec.{ltb, eqb}
-use lib.ListN.{length, getD, set, List·getD-eq-default}
+use lib.ListN.{length, getD, List·getD-eq-default}
 use lib.Seq.{getD-set-same, getD-set-other}
 use borrow.Author.Tests.{eqb-true, eqb-false, ltb-true, ltb-false}
 use Rattle.model.specs.declared.Phase.{Phase}
 use Rattle.model.specs.declared.Phase.the-variants.{Left}
 use Rattle.model.specs.declared.Item.{Item}
 use Rattle.model.specs.declared.Refusal.{Refusal}
-use Rattle.model.specs.declared.Refusal.the-variants.{UnknownVcpu, NotActive, NotLeaving, ShortPage, NothingInFlight}
+use Rattle.model.specs.declared.Refusal.the-variants.{UnknownVcpu, NotActive, NotLeaving}
 use Rattle.model.specs.declared.Target.{Target}
 use Rattle.model.specs.declared.Vcpu.{Vcpu}
 use Rattle.model.specs.declared.Module.{Module}
-use Rattle.model.specs.State.{isActive, isLeaving, flies, bare, absent, size, vcpuAt, withVcpu, withRegistrations}
+use Rattle.model.specs.State.{isActive, isLeaving, bare, absent, size, vcpuAt, withVcpu, withRegistrations}
 use Rattle.model.specs.Codes.{Verdict, accept, refuse, need}
-use Rattle.model.specs.Doorbell.{longEnough}
-use Rattle.model.specs.Ipi.{hits, reached, reach, mapFrom, sent, icrItem, icrTarget}
-use Rattle.model.specs.Requests.{requestOf, callVerdict, forget}
-use Rattle.model.specs.Events.{Act, notice, call, entry, nonDelivery, handBack, Bytes, Event, pageOf, vcpuVerdict, verdict, Reply, gives, sends, Effect, effectOf, Out, refusal, deliver, store, concluded, decided, step, next}
+use Rattle.model.specs.Ipi.{hits, reach, mapFrom, sent}
+use Rattle.model.specs.Events.{Act, notice, call, entry, nonDelivery, handBack, Bytes, Event, pageOf, vcpuVerdict, verdict, effectOf, Out, refusal, concluded, decided, step}
 use Rattle.vector_set.proofs.Laws.{clash}
 use Rattle.model.proofs.Tests.{and-false}
 

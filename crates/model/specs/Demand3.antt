@@ -14,7 +14,7 @@ use Rattle.model.specs.Doorbell.{Part, inPart, noPart, admitted, items}
 use Rattle.model.specs.Events.{notice, at, Bytes, Event, step, final}
 use Rattle.model.specs.Book.{Book, recordAt, note, bookOf, feedAll, partBy, parts}
 use Rattle.model.specs.Lists.{results, pages, struck, AllAlike}
-use Rattle.model.specs.Ledger.{Ledger, ledgerOf}
+use Rattle.model.specs.Ledger.{ledgerOf}
 use Rattle.vector_set.specs.Bits.{one}
 use Rattle.vector_set.specs.Sets.{has}
 

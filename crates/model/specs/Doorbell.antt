@@ -10,7 +10,7 @@ use Rattle.model.specs.declared.Admitted.{Admitted}
 use Rattle.model.specs.declared.Item.{Item}
 use Rattle.model.specs.declared.Item.the-variants as item
 use Rattle.vector_set.specs.Bits.{one, bitAt, bits}
-use Rattle.vector_set.specs.Sets.{has, collect, empty, full, difference, highest, count, isEmpty, vectorOf}
+use Rattle.vector_set.specs.Sets.{has, collect, empty, highest, count, isEmpty, vectorOf}
 
 -- ---- bytes by their bits
 -- bit k of bytes: bit k mod 8 of byte k div 8 (4.8)

@@ -1,12 +1,11 @@
 -- The events, and what each gives from every module value (sections 4 to 11).
 -- Assumes nothing.
-use mathlib.Core.Bool.{Bool, true, false, cond, not, _&&_, _||_}
+use mathlib.Core.Bool.{Bool, cond, not, _&&_, _||_}
 use mathlib.Core.List.{List, [], _∷_}
 use mathlib.Core.Option.{Option, none, some, Option·getD}
 use Prim.Native.Nat.{ℕ, _+_, _*_}
 use lib.Dec.{leb, ltb, eqb}
 use Rattle.model.specs.declared.Phase.the-variants.{Left}
-use Rattle.model.specs.declared.InFlight.{InFlight}
 use Rattle.model.specs.declared.Item.{Item}
 use Rattle.model.specs.declared.Item.the-variants.{Nmi, Vector}
 use Rattle.model.specs.declared.Refusal.{Refusal}
@@ -23,7 +22,7 @@ use Rattle.model.specs.Items.{flying, flightOf, mark, unmark, markAll, u
 use Rattle.model.specs.Doorbell.{longEnough, Part, isLevel, inPart, admitted, items, noticedPage, handedBytes, written}
 use Rattle.model.specs.Registers.{class, ppr}
 use Rattle.model.specs.Ipi.{icrItem, icrTarget, sent, reachedBits}
-use Rattle.model.specs.Requests.{requestOf, Served, forget, serve, callVerdict}
+use Rattle.model.specs.Requests.{requestOf, forget, serve, callVerdict}
 use Rattle.vector_set.specs.Bits.{one}
 use Rattle.vector_set.specs.Sets.{has, collect, empty, insert, remove, highest}
 

@@ -13,7 +13,8 @@ use Rattle.model.specs.Events.{notice, at, Bytes, Event, vcpuVerdict, ve
 use Rattle.model.specs.Causes.{isHandBack}
 use Rattle.model.specs.Book.{note, bookOf, partBy, parts}
 use Rattle.model.specs.Lists.{results, handBackPages, pages, Alike, same, notices, AllAlike, neither, both}
-use Rattle.model.proofs.Follow.{follow, part-accepted, vmpl-next}
+use Rattle.model.proofs.Follow.{follow, part-accepted}
+use Rattle.model.proofs.Stays.{vmpl-next}
 
 -- ---- one step: what two such events on one module leave equal, which is all but the page of a notice
 pub record Agree (m : Module) (d e : Event) : Type 0 where

@@ -1,47 +1,40 @@
 -- Why no item is presented more often than it was pending at first, admitted, sent and returned: an item that is pending has not been presented yet.
 -- Assumes nothing.
-use mathlib.Core.Path.{_≡_, refl, ap, _∙_}
-use mathlib.Core.Bool.{Bool, true, false, cond, not, _&&_, _||_}
+use mathlib.Core.Path.{_≡_, refl}
+use mathlib.Core.Bool.{Bool, false, cond, _&&_}
 use mathlib.Core.List.{List, [], _∷_}
 use mathlib.Core.Option.{Option, none, some}
 use Prim.Native.Nat.{ℕ, _+_, _-_, _≤_}
 use native.Mathlib.Omega.{arith}
-use lib.Dec.{ltb, leb, eqb}
-use borrow.Author.Tests.{eqb-true}
+use lib.Dec.{ltb, eqb}
 use Rattle.model.specs.declared.InFlight.the-variants as flight
 use Rattle.model.specs.declared.Item.{Item}
-use Rattle.model.specs.declared.Item.the-variants as item
 use Rattle.model.specs.declared.Target.{Target}
-use Rattle.model.specs.declared.Target.the-variants.{Caller}
-use Rattle.model.specs.declared.Kind.{Kind}
-use Rattle.model.specs.declared.Kind.the-variants as kind
 use Rattle.model.specs.declared.Refusal.{Refusal}
-use Rattle.model.specs.declared.Refusal.the-variants.{UnknownCall, BadRegister}
 use Rattle.model.specs.declared.Local.{Local}
-use Rattle.model.specs.declared.Local.the-variants as local
 use Rattle.model.specs.declared.Request.{Request}
 use Rattle.model.specs.declared.Request.the-variants as request
 use Rattle.model.specs.declared.Vcpu.{Vcpu}
 use Rattle.model.specs.declared.Module.{Module}
 use Rattle.model.specs.State.{isActive, size, vcpuAt, withVcpu, withIcr}
 use Rattle.model.specs.Codes.{codeOf, accept, refuse, Answer, nothing, presents, window, Result, refused, accepted, presentedIn}
-use Rattle.model.specs.Items.{InRange, sameItem, isItem, flying, flightOf, pending, mark, unmarkAll}
-use Rattle.model.specs.Doorbell.{isVector, Part, inPart, admitted}
-use Rattle.model.specs.Registers.{class, ppr, kindOf, endedAt, ended}
-use Rattle.model.specs.Ipi.{icrLegal, icrItem, icrTarget, hits, reach, sent}
-use Rattle.model.specs.Requests.{bad, registration, readBy, writeValue, writeBy, nameable, permission, requestOf, forget, leaveIf, serve}
-use Rattle.model.specs.Events.{Act, notice, call, entry, nonDelivery, handBack, at, Bytes, Event, noticed, offerHighest, offer, present, entered, giveBack, undelivered, emptied, verdict, callEffect, effect, concluded, step, next, run}
-use Rattle.model.specs.Book.{Book, recordAt, bookOf, partOn, partBy}
+use Rattle.model.specs.Items.{InRange, sameItem, isItem, flying, pending, unmarkAll}
+use Rattle.model.specs.Doorbell.{Part, inPart, admitted}
+use Rattle.model.specs.Ipi.{icrItem, icrTarget, hits, reach, sent}
+use Rattle.model.specs.Requests.{requestOf, forget, serve}
+use Rattle.model.specs.Events.{Act, notice, call, entry, nonDelivery, handBack, at, Bytes, Event, noticed, offer, entered, undelivered, emptied, verdict, callEffect, effect, concluded, step, next, run}
+use Rattle.model.specs.Book.{Book, bookOf, partOn, partBy}
 use Rattle.model.specs.Lists.{results}
-use Rattle.model.specs.Ledger.{Ledger, tally, addAdmitted, addSent, addPresented, addReturned, withLatest, reaches, writeSends, postAct, ledger, opened, ledgerOf}
-use Rattle.vector_set.specs.Bits.{one, bitAt}
-use Rattle.vector_set.specs.Sets.{highest}
-use Rattle.vector_set.proofs.Laws.{clash, highest-has}
+use Rattle.model.specs.Ledger.{Ledger, addAdmitted, addSent, addPresented, addReturned, withLatest, writeSends, postAct, ledger, opened, ledgerOf}
+use Rattle.vector_set.specs.Bits.{one}
 use Rattle.model.proofs.Tests.{and-true, and-false}
 use Rattle.model.proofs.Stored.{on-put, vcpuAt-count, size-put, count-same, vcpuAt-sent, by-verdict, Known, known-of}
-use Rattle.model.proofs.ItemLaws.{pending-mark, rest-mark, pending-unmark, pending-markAll, rest-markAll, pending-unmarkAll}
-use Rattle.model.proofs.Follow.{record-book, part-accepted, part-refused, follow, vmpl-next}
+use Rattle.model.proofs.BookLaws.{record-book}
+use Rattle.model.proofs.Follow.{part-accepted, part-refused, follow}
+use Rattle.model.proofs.Stays.{vmpl-next}
 use Rattle.model.proofs.Allowed.{none-in}
+use Rattle.model.proofs.Pending.{pending-present, pending-giveBack, pending-emptied, gives, Like, like-noticed, like-serve, like-reach, Offered, offer-pending, Follows, flying-flight, tally-is, or-le, take-is}
+use Rattle.model.proofs.Sends.{request-le, sendsBy}
 
 -- ---- nothing is posted for a refused event or a read
 pub quiet-refused : (j : ℕ) (x : Item) (s : Part) (w : Book) (i : ℕ) (a : Act Bytes) (c : ℕ) (g : Ledger) → inPart x s ≡ false
@@ -57,207 +50,6 @@ pub quiet-read : (j : ℕ) (x : Item) (s : Part) (w : Book) (i op c y : ℕ) (a 
     → postAct j x s w i (call op c y) a g ≡ g
 unfolding postAct
 quiet-read j x s w i op c y a g h = rw (h, and-false (accepted a))
-
--- ---- what is pending at a record after each change
-pending-present : (x : Item) → InRange x → (y : Item) (v : Vcpu) → pending x (present y v) ≡ (not (sameItem x y) && pending x v)
-unfolding present
-pending-present x r item.Nmi v = pending-unmark x r item.Nmi v
-pending-present x r (item.Vector y) v = pending-unmark x r (item.Vector y) v
-
-pending-giveBack : (x : Item) → InRange x → (y : Item) (v : Vcpu) → pending x (giveBack y v) ≡ (sameItem x y || pending x v)
-unfolding giveBack
-pending-giveBack x r item.Nmi v = pending-mark x r item.Nmi v
-pending-giveBack x r (item.Vector y) v = pending-mark x r (item.Vector y) v
-
-pending-emptied : (x : Item) → InRange x → (v : Vcpu) → pending x (emptied v) ≡ false
-unfolding emptied
-pending-emptied x r v = pending-unmarkAll x r v
-
--- what a call gives to the caller's record: the vector of a self-IPI
-abbrev gives : Item → Local → Bool
-gives x local.Features = false
-gives x local.Leave = false
-gives x local.Release = false
-gives x local.Register = false
-gives x (local.Allow y) = false
-gives x (local.Disallow y) = false
-gives x (local.Read y) = false
-gives x (local.SetTpr y) = false
-gives x local.Eoi = false
-gives x (local.SelfIpi y) = sameItem x (item.Vector y)
-
--- what is pending and in flight at the record u, with b given, and at v
-record Like (x : Item) (b : Bool) (u v : Vcpu) : Type 0 where
-  pends : pending x v ≡ (b || pending x u)
-  flies : v .flight ≡ u .flight
-
-or-comm : (a b : Bool) → (a || b) ≡ (b || a)
-or-comm true true = refl
-or-comm true false = refl
-or-comm false true = refl
-or-comm false false = refl
-
-like-noticed : (x : Item) → InRange x → (s : Part) (v : Vcpu) → Like x (inPart x s) v (noticed s v)
-unfolding noticed
-like-noticed x r s v =
-    record {
-      pends = pending-markAll x r (λ y. inPart y s) v ∙ or-comm (pending x v) (inPart x s);
-      flies = ap (λ (u : Vcpu). u .flight) (rest-markAll (λ y. inPart y s) v);
-    }
-
-like-leave : (x : Item) (b : Bool) (v : Vcpu) → Like x false v (leaveIf b v)
-like-leave x true v = record { pends = refl; flies = refl }
-like-leave x false v = record { pends = refl; flies = refl }
-
-like-ended : (x : Item) (o : Option ℕ) (v : Vcpu) → Like x false v (endedAt o v)
-unfolding endedAt
-like-ended x none v = record { pends = refl; flies = refl }
-like-ended x (some y) v = record { pends = refl; flies = refl }
-
-like-mark : (x : Item) → InRange x → (y : Item) (v : Vcpu) → Like x (sameItem x y) v (mark y v)
-like-mark x r y v = record { pends = pending-mark x r y v; flies = ap (λ (u : Vcpu). u .flight) (rest-mark y v) }
-
-like-serve : (x : Item) → InRange x → (o : Local) (i k : ℕ) (v : Vcpu) → Like x (gives x o) v (serve o i k v .vcpu)
-unfolding serve ended
-like-serve x r local.Features i k v = record { pends = refl; flies = refl }
-like-serve x r local.Leave i k v = like-leave x (eqb k 0) v
-like-serve x r local.Release i k v = like-leave x (eqb (k - 1) 0) v
-like-serve x r local.Register i k v = record { pends = refl; flies = refl }
-like-serve x r (local.Allow y) i k v = record { pends = refl; flies = refl }
-like-serve x r (local.Disallow y) i k v = record { pends = refl; flies = refl }
-like-serve x r (local.Read y) i k v = record { pends = refl; flies = refl }
-like-serve x r (local.SetTpr y) i k v = record { pends = refl; flies = refl }
-like-serve x r local.Eoi i k v = like-ended x (highest (v .isr)) v
-like-serve x r (local.SelfIpi y) i k v = like-mark x r (item.Vector y) v
-
-like-reach : (x : Item) → InRange x → (y : Item) (t : Target) (i n j : ℕ) (v : Vcpu)
-    → Like x (sameItem x y && (ltb j n && hits t i j && isActive (v .phase))) v (reach y t i n j v)
-unfolding reach
-like-reach x r y t i n j v = pick (ltb j n && hits t i j && isActive (v .phase))
-  where
-    pick : (b : Bool) → Like x (sameItem x y && b) v (cond b (mark y v) v)
-    pick true = rw (and-true (sameItem x y)) (like-mark x r y v)
-    pick false = rw (and-false (sameItem x y)) (record { pends = refl; flies = refl })
-
--- ---- what an entry presents is pending
-Offered : Answer → Vcpu → Type 0
-Offered a v = (x : Item) → isItem x (presentedIn a) ≡ true → pending x v ≡ true
-
-offer-pending : (iF sh bl : Bool) (v : Vcpu) → Offered (offer iF sh bl v) v
-unfolding offer offerHighest Offered
-offer-pending iF sh bl v = pick (v .nmi) (not (sh || bl)) refl
-  where
-    above : (a b : Bool) (y : ℕ) → highest (v .irr) ≡ some y → Offered (cond a nothing (cond b (presents (item.Vector y)) (window y))) v
-    above true b y e x h = clash (cc)
-    above false true y e item.Nmi h = clash (cc)
-    above false true y e (item.Vector z) h = rw (eqb-true z y h) (highest-has (v .irr) y e .0)
-    above false false y e x h = clash (cc)
-
-    high : (o : Option ℕ) → highest (v .irr) ≡ o → Offered (offerHighest (iF && not sh) (ppr v) o) v
-    high none e x h = clash (cc)
-    high (some y) e x h = above (leb (class y) (class (ppr v))) (iF && not sh) y e x h
-
-    pick : (a b : Bool) → v .nmi ≡ a → Offered (cond (a && b) (presents item.Nmi) (offerHighest (iF && not sh) (ppr v) (highest (v .irr)))) v
-    pick true true e item.Nmi h = e
-    pick true true e (item.Vector z) h = clash (cc)
-    pick true false e x h = high (highest (v .irr)) refl x h
-    pick false b e x h = high (highest (v .irr)) refl x h
-
--- ---- what is in flight is what the latest accepted entry presented
-abbrev pub Follows : Option Item → Option Item → Type 0
-Follows none l = Unit {0}
-Follows (some y) l = l ≡ some y
-
-flying-flight : (y : Item) → flying (flightOf y) ≡ some y
-flying-flight item.Nmi = refl
-flying-flight (item.Vector x) = refl
-
-tally-is : (b : Bool) (n : ℕ) → tally b n ≡ n + one b
-tally-is true n = omega arith
-tally-is false n = omega arith
-
-or-le : (a b : Bool) → one (a || b) ≤ one a + one b
-or-le true b = omega arith
-or-le false b = omega arith
-
--- taken out where it was
-take-is : (t p : Bool) → (t ≡ true → p ≡ true) → one (not t && p) + one t ≡ one p
-take-is true p h = let e : p ≡ true = h refl in rw e
-take-is false p h = omega arith
-
--- ---- what a call sends, by what its numbers ask for
-abbrev sendsBy : ℕ → Item → Book → ℕ → Request → Bool
-sendsBy j x w i (request.Local o) = gives x o && (ltb j (w .n) && hits Caller i j && isActive (recordAt w j .phase))
-sendsBy j x w i (request.Icr y) = reaches j x w i (icrItem y) (icrTarget y)
-sendsBy j x w i (request.Refused c) = false
-
-left-le : (a b : Bool) → one a ≤ one (a || b)
-left-le true b = omega arith
-left-le false b = omega arith
-
-right-le : (a b : Bool) → one b ≤ one (a || b)
-right-le true true = omega arith
-right-le true false = omega arith
-right-le false b = omega arith
-
-module _ (j : ℕ) (x : Item) (w : Book) (i : ℕ) where
-  either-le : (b : Bool) (q r : Request) (n : ℕ) → one (sendsBy j x w i q) ≤ n → one (sendsBy j x w i r) ≤ n → one (sendsBy j x w i (cond b q r)) ≤ n
-  either-le true q r n g h = g
-  either-le false q r n g h = h
-
-  read-le : (k : Kind) (c n : ℕ) → one (sendsBy j x w i (readBy k c)) ≤ n
-  read-le kind.None c n = omega arith
-  read-le kind.Read c n = omega arith
-  read-le kind.Write c n = omega arith
-  read-le kind.Both c n = omega arith
-
-  registration-le : (c n : ℕ) → one (sendsBy j x w i (registration c)) ≤ n
-  unfolding registration
-  registration-le c n =
-      either-le (eqb c 0) _ _ n (omega arith) (either-le (eqb c 1) _ _ n (omega arith) (either-le (eqb c 2) _ _ n (omega arith) (omega arith)))
-
-  permission-le : (c n : ℕ) → one (sendsBy j x w i (permission c)) ≤ n
-  unfolding permission
-  permission-le c n = either-le (nameable c) _ _ n (either-le (bitAt c 8) _ _ n (omega arith) (omega arith)) (omega arith)
-
-  -- the tests of the register as Bools: EOI, self-IPI, TPR, ICR
-  value-le : (c y : ℕ) → one (sendsBy j x w i (writeValue c y)) ≤ one (writeSends j x w i c y)
-  unfolding writeValue writeSends
-  value-le c y = pick (eqb c 0x80B) (eqb c 0x83F) (eqb c 0x808) (eqb c 0x830)
-    where
-      pick : (e s t k : Bool) → one (
-          sendsBy j x w i
-          (cond e (cond (eqb y 0) (request.Local local.Eoi) bad)
-          (cond s (cond (isVector y) (request.Local (local.SelfIpi y)) bad)
-          (cond t (cond (leb y 255) (request.Local (local.SetTpr y)) bad)
-          (cond k (cond (icrLegal y) (request.Icr y) bad) (request.Refused BadRegister)))))
-          )
-          ≤ one ((k && reaches j x w i (icrItem y) (icrTarget y)) || (s && reaches j x w i (item.Vector y) Caller))
-      pick true s t k = either-le (eqb y 0) _ _ _ (omega arith) (omega arith)
-      pick false true t k = either-le (isVector y) _ _ _ (right-le (k && reaches j x w i (icrItem y) (icrTarget y)) _) (omega arith)
-      pick false false true k = either-le (leb y 255) _ _ _ (omega arith) (omega arith)
-      pick false false false true = either-le (icrLegal y) _ _ _ (left-le (reaches j x w i (icrItem y) (icrTarget y)) false) (omega arith)
-      pick false false false false = omega arith
-
-  write-le : (k : Kind) (c y : ℕ) → one (sendsBy j x w i (writeBy k c y)) ≤ one (writeSends j x w i c y)
-  write-le kind.None c y = omega arith
-  write-le kind.Read c y = omega arith
-  write-le kind.Write c y = value-le c y
-  write-le kind.Both c y = value-le c y
-
-  -- what the request that a call's numbers make sends, those numbers write
-  request-le : (op c y : ℕ) → one (sendsBy j x w i (requestOf op c y)) ≤ one (eqb op 3 && writeSends j x w i c y)
-  unfolding requestOf
-  request-le op c y =
-      either-le (eqb op 0) _ _ _ (omega arith)
-      (either-le (eqb op 1) _ _ _ (registration-le c _)
-      (either-le (eqb op 2) _ _ _ (read-le (kindOf c) c _) (pick (eqb op 3))))
-    where
-      pick : (b : Bool)
-          → one (sendsBy j x w i (cond b (writeBy (kindOf c) c y) (cond (eqb op 4) (permission c) (request.Refused UnknownCall))))
-          ≤ one (b && writeSends j x w i c y)
-      pick true = write-le (kindOf c) c y
-      pick false = either-le (eqb op 4) _ _ _ (permission-le c _) (omega arith)
 
 -- ---- the invariant: with c pending at first, what was presented and is pending is covered by the ledger g, and what flies is the latest
 module _ (j : ℕ) (x : Item) (r : InRange x) (c : ℕ) where

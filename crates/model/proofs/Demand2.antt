@@ -38,7 +38,8 @@ accepted true true false e = clash (cc)
 accepted true false c e = clash (cc)
 accepted false b c e = clash (cc)
 
-pub accepted-in : (m : Module) (i : ℕ) (p : Bytes) (iF sh : Bool) → verdict m (at i (handBack p iF sh)) ≡ accept → (ltb i (size m) ≡ true) × (longEnough p ≡ true)
+pub accepted-in : (m : Module) (i : ℕ) (p : Bytes) (iF sh : Bool) → verdict m (at i (handBack p iF sh)) ≡ accept
+    → (ltb i (size m) ≡ true) × (longEnough p ≡ true)
 unfolding verdict vcpuVerdict
 accepted-in m i p iF sh e = accepted (ltb i (size m)) (isLeaving (vcpuAt m i .phase)) (longEnough p) e
 

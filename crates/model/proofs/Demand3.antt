@@ -19,7 +19,8 @@ use Rattle.model.specs.Demand3.{bookAfter, Exact, FromAny, Demand3}
 use Rattle.vector_set.specs.Bits.{one}
 use Rattle.vector_set.proofs.Laws.{has-empty}
 use Rattle.model.proofs.Stored.{by-verdict}
-use Rattle.model.proofs.Follow.{follow-all, struck-book, part-accepted, part-refused, vmpl-final}
+use Rattle.model.proofs.Follow.{follow-all, struck-book, part-accepted, part-refused}
+use Rattle.model.proofs.Stays.{vmpl-final}
 use Rattle.model.proofs.Alike.{alike}
 use Rattle.model.proofs.Allowed.{part-fits}
 use Rattle.model.proofs.Bound.{bounded}

@@ -98,7 +98,8 @@ leaveIf false v = v
 abbrev pub always : ℕ → Vcpu → ℕ → Served
 always x v k = record { verdict = accept; value = x; vcpu = v; registrations = k }
 
--- a request on the record v of the vCPU i, which has forgotten what was in flight, at the count k. k - 1 is 0 at 0 (5.5, 5.8 to 5.14, 5.16, 5.19, 5.20, 5.22, 5.23, 6.22, 6.25, 7.22, 7.23, 11.18)
+-- a request on the record v of the vCPU i, which has forgotten what was in flight, at the count k; k - 1 is 0 at 0
+-- (5.5, 5.8 to 5.14, 5.16, 5.19, 5.20, 5.22, 5.23, 6.22, 6.25, 7.22, 7.23, 11.18)
 unfoldable pub serve : Local → ℕ → ℕ → Vcpu → Served
 serve Features i k v = always 0 v k
 serve Leave i k v = always 0 (leaveIf (eqb k 0) v) k

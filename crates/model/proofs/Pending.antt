@@ -1,0 +1,156 @@
+-- What is pending and in flight at a record after each change, and that what an entry presents was pending.
+-- Assumes nothing.
+use mathlib.Core.Path.{_≡_, refl, ap, _∙_}
+use mathlib.Core.Bool.{Bool, true, false, cond, not, _&&_, _||_}
+use mathlib.Core.Option.{Option, none, some}
+use Prim.Native.Nat.{ℕ, _+_, _-_, _≤_}
+use native.Mathlib.Omega.{arith}
+use lib.Dec.{ltb, leb, eqb}
+use borrow.Author.Tests.{eqb-true}
+use Rattle.model.specs.declared.Item.{Item}
+use Rattle.model.specs.declared.Item.the-variants as item
+use Rattle.model.specs.declared.Target.{Target}
+use Rattle.model.specs.declared.Local.{Local}
+use Rattle.model.specs.declared.Local.the-variants as local
+use Rattle.model.specs.declared.Vcpu.{Vcpu}
+use Rattle.model.specs.State.{isActive}
+use Rattle.model.specs.Codes.{Answer, nothing, presents, window, presentedIn}
+use Rattle.model.specs.Items.{InRange, sameItem, isItem, flying, flightOf, pending, mark}
+use Rattle.model.specs.Doorbell.{Part, inPart}
+use Rattle.model.specs.Registers.{class, ppr, endedAt, ended}
+use Rattle.model.specs.Ipi.{hits, reach}
+use Rattle.model.specs.Requests.{leaveIf, serve}
+use Rattle.model.specs.Events.{noticed, offerHighest, offer, present, giveBack, emptied}
+use Rattle.model.specs.Ledger.{tally}
+use Rattle.vector_set.specs.Bits.{one}
+use Rattle.vector_set.specs.Sets.{highest}
+use Rattle.vector_set.proofs.Laws.{clash, highest-has}
+use Rattle.model.proofs.Tests.{and-true, and-false}
+use Rattle.model.proofs.ItemLaws.{pending-mark, rest-mark, pending-unmark, pending-markAll, rest-markAll, pending-unmarkAll}
+
+-- ---- what is pending at a record after each change
+pub pending-present : (x : Item) → InRange x → (y : Item) (v : Vcpu) → pending x (present y v) ≡ (not (sameItem x y) && pending x v)
+unfolding present
+pending-present x r item.Nmi v = pending-unmark x r item.Nmi v
+pending-present x r (item.Vector y) v = pending-unmark x r (item.Vector y) v
+
+pub pending-giveBack : (x : Item) → InRange x → (y : Item) (v : Vcpu) → pending x (giveBack y v) ≡ (sameItem x y || pending x v)
+unfolding giveBack
+pending-giveBack x r item.Nmi v = pending-mark x r item.Nmi v
+pending-giveBack x r (item.Vector y) v = pending-mark x r (item.Vector y) v
+
+pub pending-emptied : (x : Item) → InRange x → (v : Vcpu) → pending x (emptied v) ≡ false
+unfolding emptied
+pending-emptied x r v = pending-unmarkAll x r v
+
+-- what a call gives to the caller's record: the vector of a self-IPI
+abbrev pub gives : Item → Local → Bool
+gives x local.Features = false
+gives x local.Leave = false
+gives x local.Release = false
+gives x local.Register = false
+gives x (local.Allow y) = false
+gives x (local.Disallow y) = false
+gives x (local.Read y) = false
+gives x (local.SetTpr y) = false
+gives x local.Eoi = false
+gives x (local.SelfIpi y) = sameItem x (item.Vector y)
+
+-- what is pending and in flight at the record u, with b given, and at v
+pub record Like (x : Item) (b : Bool) (u v : Vcpu) : Type 0 where
+  pub pends : pending x v ≡ (b || pending x u)
+  pub flies : v .flight ≡ u .flight
+
+or-comm : (a b : Bool) → (a || b) ≡ (b || a)
+or-comm true true = refl
+or-comm true false = refl
+or-comm false true = refl
+or-comm false false = refl
+
+pub like-noticed : (x : Item) → InRange x → (s : Part) (v : Vcpu) → Like x (inPart x s) v (noticed s v)
+unfolding noticed
+like-noticed x r s v =
+    record {
+      pends = pending-markAll x r (λ y. inPart y s) v ∙ or-comm (pending x v) (inPart x s);
+      flies = ap (λ (u : Vcpu). u .flight) (rest-markAll (λ y. inPart y s) v);
+    }
+
+like-leave : (x : Item) (b : Bool) (v : Vcpu) → Like x false v (leaveIf b v)
+like-leave x true v = record { pends = refl; flies = refl }
+like-leave x false v = record { pends = refl; flies = refl }
+
+like-ended : (x : Item) (o : Option ℕ) (v : Vcpu) → Like x false v (endedAt o v)
+unfolding endedAt
+like-ended x none v = record { pends = refl; flies = refl }
+like-ended x (some y) v = record { pends = refl; flies = refl }
+
+like-mark : (x : Item) → InRange x → (y : Item) (v : Vcpu) → Like x (sameItem x y) v (mark y v)
+like-mark x r y v = record { pends = pending-mark x r y v; flies = ap (λ (u : Vcpu). u .flight) (rest-mark y v) }
+
+pub like-serve : (x : Item) → InRange x → (o : Local) (i k : ℕ) (v : Vcpu) → Like x (gives x o) v (serve o i k v .vcpu)
+unfolding serve ended
+like-serve x r local.Features i k v = record { pends = refl; flies = refl }
+like-serve x r local.Leave i k v = like-leave x (eqb k 0) v
+like-serve x r local.Release i k v = like-leave x (eqb (k - 1) 0) v
+like-serve x r local.Register i k v = record { pends = refl; flies = refl }
+like-serve x r (local.Allow y) i k v = record { pends = refl; flies = refl }
+like-serve x r (local.Disallow y) i k v = record { pends = refl; flies = refl }
+like-serve x r (local.Read y) i k v = record { pends = refl; flies = refl }
+like-serve x r (local.SetTpr y) i k v = record { pends = refl; flies = refl }
+like-serve x r local.Eoi i k v = like-ended x (highest (v .isr)) v
+like-serve x r (local.SelfIpi y) i k v = like-mark x r (item.Vector y) v
+
+pub like-reach : (x : Item) → InRange x → (y : Item) (t : Target) (i n j : ℕ) (v : Vcpu)
+    → Like x (sameItem x y && (ltb j n && hits t i j && isActive (v .phase))) v (reach y t i n j v)
+unfolding reach
+like-reach x r y t i n j v = pick (ltb j n && hits t i j && isActive (v .phase))
+  where
+    pick : (b : Bool) → Like x (sameItem x y && b) v (cond b (mark y v) v)
+    pick true = rw (and-true (sameItem x y)) (like-mark x r y v)
+    pick false = rw (and-false (sameItem x y)) (record { pends = refl; flies = refl })
+
+-- ---- what an entry presents is pending
+unfoldable pub Offered : Answer → Vcpu → Type 0
+Offered a v = (x : Item) → isItem x (presentedIn a) ≡ true → pending x v ≡ true
+
+pub offer-pending : (iF sh bl : Bool) (v : Vcpu) → Offered (offer iF sh bl v) v
+unfolding offer offerHighest Offered
+offer-pending iF sh bl v = pick (v .nmi) (not (sh || bl)) refl
+  where
+    above : (a b : Bool) (y : ℕ) → highest (v .irr) ≡ some y → Offered (cond a nothing (cond b (presents (item.Vector y)) (window y))) v
+    above true b y e x h = clash (cc)
+    above false true y e item.Nmi h = clash (cc)
+    above false true y e (item.Vector z) h = rw (eqb-true z y h) (highest-has (v .irr) y e .0)
+    above false false y e x h = clash (cc)
+
+    high : (o : Option ℕ) → highest (v .irr) ≡ o → Offered (offerHighest (iF && not sh) (ppr v) o) v
+    high none e x h = clash (cc)
+    high (some y) e x h = above (leb (class y) (class (ppr v))) (iF && not sh) y e x h
+
+    pick : (a b : Bool) → v .nmi ≡ a → Offered (cond (a && b) (presents item.Nmi) (offerHighest (iF && not sh) (ppr v) (highest (v .irr)))) v
+    pick true true e item.Nmi h = e
+    pick true true e (item.Vector z) h = clash (cc)
+    pick true false e x h = high (highest (v .irr)) refl x h
+    pick false b e x h = high (highest (v .irr)) refl x h
+
+-- ---- what is in flight is what the latest accepted entry presented
+abbrev pub Follows : Option Item → Option Item → Type 0
+Follows none l = Unit {0}
+Follows (some y) l = l ≡ some y
+
+pub flying-flight : (y : Item) → flying (flightOf y) ≡ some y
+flying-flight item.Nmi = refl
+flying-flight (item.Vector x) = refl
+
+pub tally-is : (b : Bool) (n : ℕ) → tally b n ≡ n + one b
+tally-is true n = omega arith
+tally-is false n = omega arith
+
+pub or-le : (a b : Bool) → one (a || b) ≤ one a + one b
+or-le true b = omega arith
+or-le false b = omega arith
+
+-- taken out where it was
+pub take-is : (t p : Bool) → (t ≡ true → p ≡ true) → one (not t && p) + one t ≡ one p
+take-is true p h = let e : p ≡ true = h refl in rw e
+take-is false p h = omega arith

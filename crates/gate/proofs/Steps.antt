@@ -20,7 +20,7 @@ use Rattle.model.specs.declared.Stepped.{Stepped}
 use Rattle.model.specs.State.{isActive, isLeaving, size, vcpuAt, withVcpu, withRegistrations}
 use Rattle.model.specs.Doorbell.{longEnough, Part, partOf, admitted, noticedPage, written}
 use Rattle.model.specs.Codes.{accept, need, Result, resultOf}
-use Rattle.model.specs.Items.{flying}
+use Rattle.model.specs.Items.{itemInFlight}
 use Rattle.model.specs.Requests.{requestOf}
 use Rattle.model.specs.Events.{notice, call, entry, nonDelivery, handBack, at, offer, vcpuVerdict, noticed, emptied, handed, handBackResult, Out, step, outOf}
 use Rattle.doorbell.specs.Served.{serves, takenPart, takenPage}
@@ -139,11 +139,11 @@ module _ (m : Module) (i : ℕ) (h : i < size m) (v : Vcpu) (here : v ≡ vcpuAt
       (e ∙ ap (λ (u : Vcpu). entryOn (vcpuVerdict 0 0 u (entry iF sh bl)) (offer iF sh bl u) u) here)
       ∙ sym (lift-entry m i h iF sh bl)
 
-  pub returned : (r : VcpuStepped) → steppedOut r ≡ nonDeliveryOn (vcpuVerdict 0 0 v nonDelivery) (flying (v .flight)) v
+  pub returned : (r : VcpuStepped) → steppedOut r ≡ nonDeliveryOn (vcpuVerdict 0 0 v nonDelivery) (itemInFlight (v .flight)) v
       → onRecord m i (steppedOut r) [] ≡ step m (at i nonDelivery)
   returned r e =
       ap (λ (o : VcpuOut). onRecord m i o [])
-      (e ∙ ap (λ (u : Vcpu). nonDeliveryOn (vcpuVerdict 0 0 u nonDelivery) (flying (u .flight)) u) here)
+      (e ∙ ap (λ (u : Vcpu). nonDeliveryOn (vcpuVerdict 0 0 u nonDelivery) (itemInFlight (u .flight)) u) here)
       ∙ sym (lift-nonDelivery m i h)
 
   -- a notice that gave the record and the result o, and the page q

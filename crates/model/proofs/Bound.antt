@@ -18,14 +18,14 @@ use Rattle.model.specs.declared.Vcpu.{Vcpu}
 use Rattle.model.specs.declared.Module.{Module}
 use Rattle.model.specs.State.{isActive, size, vcpuAt, withVcpu, withIcr}
 use Rattle.model.specs.Codes.{codeOf, accept, refuse, Answer, nothing, presents, window, Result, refused, accepted, presentedIn}
-use Rattle.model.specs.Items.{InRange, sameItem, isItem, flying, pending, unmarkAll}
+use Rattle.model.specs.Items.{InRange, sameItem, isItem, itemInFlight, pending, unmarkAll}
 use Rattle.model.specs.Doorbell.{Part, inPart, admitted}
 use Rattle.model.specs.Ipi.{icrItem, icrTarget, hits, reach, sent}
 use Rattle.model.specs.Requests.{requestOf, forget, serve}
 use Rattle.model.specs.Events.{Act, notice, call, entry, nonDelivery, handBack, at, Bytes, Event, noticed, offer, entered, undelivered, emptied, verdict, callEffect, effect, concluded, step, next, run}
 use Rattle.model.specs.Book.{Book, bookOf, partOn, partBy}
 use Rattle.model.specs.Lists.{results}
-use Rattle.model.specs.Ledger.{Ledger, addAdmitted, addSent, addPresented, addReturned, withLatest, writeSends, postAct, ledger, opened, ledgerOf}
+use Rattle.model.specs.Ledger.{Ledger, Quiet, addAdmitted, addSent, addPresented, addReturned, withLatest, writeSends, postAct, ledger, opened, ledgerOf}
 use Rattle.vector_set.specs.Bits.{one}
 use Rattle.model.proofs.Tests.{and-true, and-false}
 use Rattle.model.proofs.Stored.{on-put, vcpuAt-count, size-put, count-same, vcpuAt-sent, by-verdict, Known, known-of}
@@ -51,25 +51,28 @@ pub quiet-read : (j : ℕ) (x : Item) (s : Part) (w : Book) (i op c y : ℕ) (a 
 unfolding postAct
 quiet-read j x s w i op c y a g h = rw (h, and-false (accepted a))
 
--- ---- the invariant: with c pending at first, what was presented and is pending is covered by the ledger g, and what flies is the latest
+pub quiet : Quiet
+quiet = record { refusals = quiet-refused; reads = quiet-read }
+
+-- ---- the invariant: with c pending at first, what was presented and is pending is covered by the ledger g, and what isInFlight is the latest
 module _ (j : ℕ) (x : Item) (r : InRange x) (c : ℕ) where
   pub record Covers (v : Vcpu) (g : Ledger) : Type 0 where
     pub covered : g .presented + one (pending x v) ≤ c + g .admitted + g .sent + g .returned
-    pub follows : Follows (flying (v .flight)) (g .latest)
+    pub follows : Follows (itemInFlight (v .flight)) (g .latest)
 
   -- a record that gained b, admitted or sent
   cover-admitted : (b : Bool) (u v : Vcpu) (g : Ledger) → Like x b u v → Covers u g → Covers v (addAdmitted b g)
   cover-admitted b u v g l h =
       record {
         covered = rw (l .pends) (omega (arith, or-le b (pending x u), tally-is b (g .admitted), h .covered));
-        follows = rw (l .flies) (h .follows);
+        follows = rw (l .inFlight) (h .follows);
       }
 
   cover-sent : (b : Bool) (u v : Vcpu) (g : Ledger) → Like x b u v → Covers u g → Covers v (addSent b g)
   cover-sent b u v g l h =
       record {
         covered = rw (l .pends) (omega (arith, or-le b (pending x u), tally-is b (g .sent), h .covered));
-        follows = rw (l .flies) (h .follows);
+        follows = rw (l .inFlight) (h .follows);
       }
 
   -- more sent covers more
@@ -182,9 +185,9 @@ module _ (j : ℕ) (x : Item) (r : InRange x) (c : ℕ) where
         (λ q. rw (and-false (isItem x (presentedIn (offer iF sh bl (vcpuAt m i))))) q) h)
     cover-at i nonDelivery e =
         rw (vcpuAt-count)
-        (on-put m i (undelivered (flying (vcpuAt m i .flight)) (vcpuAt m i)) j (known-of m i nonDelivery e .there)
+        (on-put m i (undelivered (itemInFlight (vcpuAt m i .flight)) (vcpuAt m i)) j (known-of m i nonDelivery e .there)
         (λ _ b u v. Covers u g → Covers v (addReturned (isItem x (g .latest) && b) g))
-        (λ q. rw (and-true (isItem x (g .latest))) (cover-undelivered (flying (vcpuAt m i .flight)) (vcpuAt m i) g (q .follows) q))
+        (λ q. rw (and-true (isItem x (g .latest))) (cover-undelivered (itemInFlight (vcpuAt m i .flight)) (vcpuAt m i) g (q .follows) q))
         (λ q. rw (and-false (isItem x (g .latest))) q) h)
     cover-at i (handBack p iF sh) e =
         rw (vcpuAt-count)
@@ -228,5 +231,5 @@ pub bounded : (m : Module) (es : List Event) (j : ℕ) (x : Item) → InRange x
     → ledgerOf m j x es .presented
     ≤ one (pending x (vcpuAt m j)) + ledgerOf m j x es .admitted + ledgerOf m j x es .sent + ledgerOf m j x es .returned
 bounded m es j x r =
-    cover-list j x r (one (pending x (vcpuAt m j))) es m (opened (flying (vcpuAt m j .flight)))
-    (record { covered = omega arith; follows = follows-itself (flying (vcpuAt m j .flight)) })
+    cover-list j x r (one (pending x (vcpuAt m j))) es m (opened (itemInFlight (vcpuAt m j .flight)))
+    (record { covered = omega arith; follows = follows-itself (itemInFlight (vcpuAt m j .flight)) })

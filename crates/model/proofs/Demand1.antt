@@ -18,7 +18,7 @@ use Rattle.model.specs.declared.Request.{Request}
 use Rattle.model.specs.declared.Request.the-variants as request
 use Rattle.model.specs.declared.Vcpu.{Vcpu}
 use Rattle.model.specs.declared.Module.{Module}
-use Rattle.model.specs.State.{isActive, isLeaving, flies, size, vcpuAt, mayStart, started, stopped, start}
+use Rattle.model.specs.State.{isActive, isLeaving, isInFlight, size, vcpuAt, mayStart, started, stopped, start}
 use Rattle.model.specs.Codes.{codeOf, Verdict, accept, refuse, need, Result, done, answers, refused, accepted, refusalOf}
 use Rattle.model.specs.Doorbell.{isVector}
 use Rattle.model.specs.Registers.{within, isRead, isWrite, isBoth, kindOf}
@@ -178,7 +178,7 @@ verdict-causes m i (call op c x) =
 verdict-causes m i (entry iF sh bl) = needs (ltb i (size m)) UnknownVcpu _ _ (needs (isActive (vcpuAt m i .phase)) NotActive accept none refl)
 verdict-causes m i nonDelivery =
     needs (ltb i (size m)) UnknownVcpu _ _
-    (needs (isActive (vcpuAt m i .phase)) NotActive _ _ (needs (flies (vcpuAt m i .flight)) NothingInFlight accept none refl))
+    (needs (isActive (vcpuAt m i .phase)) NotActive _ _ (needs (isInFlight (vcpuAt m i .flight)) NothingInFlight accept none refl))
 verdict-causes m i (handBack p iF sh) =
     rw (ltb-leb (length p) 256)
     (needs (ltb i (size m)) UnknownVcpu _ _ (needs (isLeaving (vcpuAt m i .phase)) NotLeaving _ _ (needs (leb 256 (length p)) ShortPage accept none refl)))

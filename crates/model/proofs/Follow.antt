@@ -12,7 +12,7 @@ use Rattle.model.specs.declared.Vcpu.{Vcpu}
 use Rattle.model.specs.declared.Module.{Module}
 use Rattle.model.specs.State.{isActive, isLeaving, size, vcpuAt, withVcpu, withRegistrations}
 use Rattle.model.specs.Codes.{Verdict, accept, refuse, need}
-use Rattle.model.specs.Items.{flying, unmarkAll}
+use Rattle.model.specs.Items.{itemInFlight, unmarkAll}
 use Rattle.model.specs.Doorbell.{longEnough, noPart, admitted}
 use Rattle.model.specs.Requests.{requestOf, forget}
 use Rattle.model.specs.Events.{Act, notice, call, entry, nonDelivery, handBack, at, Bytes, Event, offer, emptied, vcpuVerdict, verdict, effect, concluded, next, final}
@@ -72,7 +72,7 @@ follow-at m i (entry iF sh bl) =
     (λ e. nothing-stored _ i m (record-entered (offer iF sh bl (vcpuAt m i)) (forget (vcpuAt m i))))
 follow-at m i nonDelivery =
     by-verdict m (at i nonDelivery) (λ o. bookOf m ≡ bookOf (o .after)) (λ c e. refl)
-    (λ e. nothing-stored _ i m (record-undelivered (flying (vcpuAt m i .flight)) (vcpuAt m i)))
+    (λ e. nothing-stored _ i m (record-undelivered (itemInFlight (vcpuAt m i .flight)) (vcpuAt m i)))
 follow-at m i (handBack p iF sh) =
     by-verdict m (at i (handBack p iF sh)) (λ o. feed (bookOf m) (note (at i (handBack p iF sh))) ≡ bookOf (o .after))
     (λ d e. rw (record-book m i) (not-three (ltb i (size m)) (isLeaving (vcpuAt m i .phase)) (longEnough p) d _ _ e))

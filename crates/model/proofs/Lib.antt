@@ -20,4 +20,4 @@ pub mod ReadBack
 pub mod Demand1
 pub mod Demand2
 pub mod Demand3
-pub mod Starred
+pub mod Computed

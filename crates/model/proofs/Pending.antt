@@ -15,7 +15,7 @@ use Rattle.model.specs.declared.Local.the-variants as local
 use Rattle.model.specs.declared.Vcpu.{Vcpu}
 use Rattle.model.specs.State.{isActive}
 use Rattle.model.specs.Codes.{Answer, nothing, presents, window, presentedIn}
-use Rattle.model.specs.Items.{InRange, sameItem, isItem, flying, flightOf, pending, mark}
+use Rattle.model.specs.Items.{InRange, sameItem, isItem, itemInFlight, flightOf, pending, mark}
 use Rattle.model.specs.Doorbell.{Part, inPart}
 use Rattle.model.specs.Registers.{class, ppr, endedAt, ended}
 use Rattle.model.specs.Ipi.{hits, reach}
@@ -59,7 +59,7 @@ gives x (local.SelfIpi y) = sameItem x (item.Vector y)
 -- what is pending and in flight at the record u, with b given, and at v
 pub record Like (x : Item) (b : Bool) (u v : Vcpu) : Type 0 where
   pub pends : pending x v ≡ (b || pending x u)
-  pub flies : v .flight ≡ u .flight
+  pub inFlight : v .flight ≡ u .flight
 
 or-comm : (a b : Bool) → (a || b) ≡ (b || a)
 or-comm true true = refl
@@ -72,31 +72,31 @@ unfolding noticed
 like-noticed x r s v =
     record {
       pends = pending-markAll x r (λ y. inPart y s) v ∙ or-comm (pending x v) (inPart x s);
-      flies = ap (λ (u : Vcpu). u .flight) (rest-markAll (λ y. inPart y s) v);
+      inFlight = ap (λ (u : Vcpu). u .flight) (rest-markAll (λ y. inPart y s) v);
     }
 
 like-leave : (x : Item) (b : Bool) (v : Vcpu) → Like x false v (leaveIf b v)
-like-leave x true v = record { pends = refl; flies = refl }
-like-leave x false v = record { pends = refl; flies = refl }
+like-leave x true v = record { pends = refl; inFlight = refl }
+like-leave x false v = record { pends = refl; inFlight = refl }
 
 like-ended : (x : Item) (o : Option ℕ) (v : Vcpu) → Like x false v (endedAt o v)
 unfolding endedAt
-like-ended x none v = record { pends = refl; flies = refl }
-like-ended x (some y) v = record { pends = refl; flies = refl }
+like-ended x none v = record { pends = refl; inFlight = refl }
+like-ended x (some y) v = record { pends = refl; inFlight = refl }
 
 like-mark : (x : Item) → InRange x → (y : Item) (v : Vcpu) → Like x (sameItem x y) v (mark y v)
-like-mark x r y v = record { pends = pending-mark x r y v; flies = ap (λ (u : Vcpu). u .flight) (rest-mark y v) }
+like-mark x r y v = record { pends = pending-mark x r y v; inFlight = ap (λ (u : Vcpu). u .flight) (rest-mark y v) }
 
 pub like-serve : (x : Item) → InRange x → (o : Local) (i k : ℕ) (v : Vcpu) → Like x (gives x o) v (serve o i k v .vcpu)
 unfolding serve ended
-like-serve x r local.Features i k v = record { pends = refl; flies = refl }
+like-serve x r local.Features i k v = record { pends = refl; inFlight = refl }
 like-serve x r local.Leave i k v = like-leave x (eqb k 0) v
 like-serve x r local.Release i k v = like-leave x (eqb (k - 1) 0) v
-like-serve x r local.Register i k v = record { pends = refl; flies = refl }
-like-serve x r (local.Allow y) i k v = record { pends = refl; flies = refl }
-like-serve x r (local.Disallow y) i k v = record { pends = refl; flies = refl }
-like-serve x r (local.Read y) i k v = record { pends = refl; flies = refl }
-like-serve x r (local.SetTpr y) i k v = record { pends = refl; flies = refl }
+like-serve x r local.Register i k v = record { pends = refl; inFlight = refl }
+like-serve x r (local.Allow y) i k v = record { pends = refl; inFlight = refl }
+like-serve x r (local.Disallow y) i k v = record { pends = refl; inFlight = refl }
+like-serve x r (local.Read y) i k v = record { pends = refl; inFlight = refl }
+like-serve x r (local.SetTpr y) i k v = record { pends = refl; inFlight = refl }
 like-serve x r local.Eoi i k v = like-ended x (highest (v .isr)) v
 like-serve x r (local.SelfIpi y) i k v = like-mark x r (item.Vector y) v
 
@@ -107,7 +107,7 @@ like-reach x r y t i n j v = pick (ltb j n && hits t i j && isActive (v .phase))
   where
     pick : (b : Bool) → Like x (sameItem x y && b) v (cond b (mark y v) v)
     pick true = rw (and-true (sameItem x y)) (like-mark x r y v)
-    pick false = rw (and-false (sameItem x y)) (record { pends = refl; flies = refl })
+    pick false = rw (and-false (sameItem x y)) (record { pends = refl; inFlight = refl })
 
 -- ---- what an entry presents is pending
 unfoldable pub Offered : Answer → Vcpu → Type 0
@@ -138,7 +138,7 @@ abbrev pub Follows : Option Item → Option Item → Type 0
 Follows none l = Unit {0}
 Follows (some y) l = l ≡ some y
 
-pub flying-flight : (y : Item) → flying (flightOf y) ≡ some y
+pub flying-flight : (y : Item) → itemInFlight (flightOf y) ≡ some y
 flying-flight item.Nmi = refl
 flying-flight (item.Vector x) = refl
 

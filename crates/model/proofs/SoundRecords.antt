@@ -21,7 +21,7 @@ use Rattle.model.specs.declared.Request.the-variants as request
 use Rattle.model.specs.declared.Vcpu.{Vcpu}
 use Rattle.model.specs.State.{isActive, isLeaving}
 use Rattle.model.specs.Codes.{Answer, nothing, presents, window}
-use Rattle.model.specs.Items.{flying, mark, unmark, markAll, unmarkAll}
+use Rattle.model.specs.Items.{itemInFlight, mark, unmark, markAll, unmarkAll}
 use Rattle.model.specs.Doorbell.{Part, isLevel, inPart, admitted}
 use Rattle.model.specs.Registers.{ppr, class, endedAt, ended}
 use Rattle.model.specs.Ipi.{icrItem}
@@ -41,7 +41,7 @@ use Rattle.model.proofs.Fitting.{Fitting, FittingRequest, fitting-reque
 -- one with nothing in flight
 pub at-rest : (v : Vcpu) → Words (v .allowed) → ((x : ℕ) → x < 256 → has (v .allowed) x ≡ true → mayName x ≡ true)
     → Levelled (v .irr) (v .«irr_level») → Levelled (v .isr) (v .«isr_level») → v .flight ≡ flight.Nothing → Sound v
-at-rest v w n p s z = record { words = w; nameable = n; irr = p; isr = s; serving = λ x e. clash (cc); settled = λ e. z }
+at-rest v w n p s z = record { words = w; nameable = n; irr = p; isr = s; inService = λ x e. clash (cc); inactive = λ e. z }
 
 sound-noticed : (l : ℕ) (p : Bytes) (v : Vcpu) → Sound v → Sound (noticed (admitted l (v .allowed) p) v)
 unfolding noticed markAll
@@ -54,8 +54,8 @@ sound-noticed l p v h =
           (λ x l. rw (h .irr .vectors x l, low x l))
           (λ x l. sub (has (v .«irr_level») x) (has (a .edge) x) (isLevel (a .level) x) (h .irr .within x l));
       isr = h .isr;
-      serving = h .serving;
-      settled = h .settled;
+      inService = h .inService;
+      inactive = h .inactive;
     }
   where
     a : Part
@@ -76,15 +76,15 @@ sound-noticed l p v h =
 pub sound-mark : (y : Item) (v : Vcpu) → IsVector y → Sound v → Sound (mark y v)
 unfolding mark
 sound-mark item.Nmi v q h =
-    record { words = h .words; nameable = h .nameable; irr = h .irr; isr = h .isr; serving = h .serving; settled = h .settled }
+    record { words = h .words; nameable = h .nameable; irr = h .irr; isr = h .isr; inService = h .inService; inactive = h .inactive }
 sound-mark (item.Vector x) v q h =
     record {
       words = h .words;
       nameable = h .nameable;
       irr = levelled-insert x (v .irr) (v .«irr_level») q (h .irr);
       isr = h .isr;
-      serving = h .serving;
-      settled = h .settled;
+      inService = h .inService;
+      inactive = h .inactive;
     }
 
 sound-forget : (v : Vcpu) → Sound v → Sound (forget v)
@@ -170,34 +170,34 @@ sound-entered : (a : Answer) (v : Vcpu) → Shown a → isActive (v .phase) ≡ 
 unfolding entered present unmark
 sound-entered nothing v q on h = sound-forget v h
 sound-entered (presents item.Nmi) v q on h =
-    record { words = h .words; nameable = h .nameable; irr = h .irr; isr = h .isr; serving = λ x e. clash (cc); settled = λ e. clash (cc) }
+    record { words = h .words; nameable = h .nameable; irr = h .irr; isr = h .isr; inService = λ x e. clash (cc); inactive = λ e. clash (cc) }
 sound-entered (presents (item.Vector x)) v q on h =
     record {
       words = h .words;
       nameable = h .nameable;
       irr = levelled-remove x (v .irr) (v .«irr_level») (h .irr);
       isr = levelled-gains x (v .«irr_level») (v .isr) (v .«isr_level») (q .0) (h .isr);
-      serving = λ y e. let d : y ≡ x = cc in rw d (has-insert x (v .isr) x (q .1) ∙ rw (eq-eqb x x refl));
-      settled = λ e. clash (cc);
+      inService = λ y e. let d : y ≡ x = cc in rw d (has-insert x (v .isr) x (q .1) ∙ rw (eq-eqb x x refl));
+      inactive = λ e. clash (cc);
     }
 sound-entered (window x) v q on h = sound-forget v h
 
--- a vector that flies is one that P may hold
+-- a vector that isInFlight is one that P may hold
 abbrev Returned : Option Item → Type 0
 Returned none = Unit {0}
 Returned (some y) = IsVector y
 
-returned-flying : (v : Vcpu) → Sound v → Returned (flying (v .flight))
+returned-flying : (v : Vcpu) → Sound v → Returned (itemInFlight (v .flight))
 returned-flying v h = go (v .flight) refl
   where
     not-low : (x : ℕ) → has (v .isr) x ≡ true → (t : Bool) → leb 31 x ≡ t → 31 ≤ x
     not-low x m true p = leb-true 31 x p
     not-low x m false p = let a = h .isr .vectors x (leb-false 31 x p) in clash (cc)
 
-    go : (f : InFlight) → v .flight ≡ f → Returned (flying f)
+    go : (f : InFlight) → v .flight ≡ f → Returned (itemInFlight f)
     go flight.Nothing e = tt
     go flight.Nmi e = tt
-    go (flight.Vector x) e = not-low x (h .serving x e) (leb 31 x) refl
+    go (flight.Vector x) e = not-low x (h .inService x e) (leb 31 x) refl
 
 sound-undelivered : (o : Option Item) (v : Vcpu) → Returned o → Sound v → Sound (undelivered o v)
 unfolding undelivered giveBack mark
@@ -218,7 +218,7 @@ not-active Left e = refl
 -- of a leaving vCPU
 sound-emptied : (v : Vcpu) → isLeaving (v .phase) ≡ true → Sound v → Sound (emptied v)
 unfolding emptied unmarkAll
-sound-emptied v on h = at-rest _ words-empty none-named levelled-empty levelled-empty (h .settled (not-active (v .phase) on))
+sound-emptied v on h = at-rest _ words-empty none-named levelled-empty levelled-empty (h .inactive (not-active (v .phase) on))
 
 -- ---- what an accepted event gives
 -- an ICR write sends a vector that P may hold, or the NMI
@@ -245,5 +245,5 @@ unfolding effect
 sound-effect l i k v (notice p) on h = sound-noticed l p v h
 sound-effect l i k v (call op c x) on h = sound-call (requestOf op c x) i k v (fitting-request op c x) h
 sound-effect l i k v (entry iF sh bl) on h = sound-entered (offer iF sh bl v) v (shown-offer iF sh bl v h) on h
-sound-effect l i k v nonDelivery on h = sound-undelivered (flying (v .flight)) v (returned-flying v h) h
+sound-effect l i k v nonDelivery on h = sound-undelivered (itemInFlight (v .flight)) v (returned-flying v h) h
 sound-effect l i k v (handBack p iF sh) on h = sound-emptied v on h

@@ -10,7 +10,7 @@ use lib.ListN.{length}
 use Rattle.model.specs.declared.Kind.{Kind}
 use Rattle.model.specs.declared.Kind.the-variants as kind
 use Rattle.model.specs.declared.Module.{Module}
-use Rattle.model.specs.State.{isActive, isLeaving, flies, size, vcpuAt}
+use Rattle.model.specs.State.{isActive, isLeaving, isInFlight, size, vcpuAt}
 use Rattle.model.specs.Doorbell.{isVector}
 use Rattle.model.specs.Registers.{within, kindOf}
 use Rattle.model.specs.Ipi.{icrLegal}
@@ -121,7 +121,7 @@ causes m e =
     ∷ cause 0x80000001 (not (isHandBack (e .act)) && not (isActive (vcpuAt m (e .vcpu) .phase)))
     ∷ cause 3 (isHandBack (e .act) && not (isLeaving (vcpuAt m (e .vcpu) .phase)))
     ∷ cause 2 (short (lends (e .act)))
-    ∷ cause 4 (isNonDelivery (e .act) && not (flies (vcpuAt m (e .vcpu) .flight)))
+    ∷ cause 4 (isNonDelivery (e .act) && not (isInFlight (vcpuAt m (e .vcpu) .flight)))
     ∷ numberCauses (m .registrations) (e .act)
 
 -- of start (11.5)

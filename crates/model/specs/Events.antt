@@ -16,9 +16,9 @@ use Rattle.model.specs.declared.Vcpu.{Vcpu}
 use Rattle.model.specs.declared.Module.{Module}
 use Rattle.model.specs.declared.Stepped.{Stepped}
 use Rattle.model.specs.declared.Entered.{Entered}
-use Rattle.model.specs.State.{isActive, isLeaving, flies, size, vcpuAt, mayStart, start, withVcpu, withRegistrations, withAllowed, withIsr, withIrrLevel, withIsrLevel, withIcr, withPhase, withFlight}
+use Rattle.model.specs.State.{isActive, isLeaving, isInFlight, size, vcpuAt, mayStart, start, withVcpu, withRegistrations, withAllowed, withIsr, withIrrLevel, withIsrLevel, withIcr, withPhase, withFlight}
 use Rattle.model.specs.Codes.{codeOf, Verdict, accept, refuse, need, Answer, nothing, presents, window, Result, done, answers, refused, resultOf, presentedResult}
-use Rattle.model.specs.Items.{flying, flightOf, mark, unmark, markAll, unmarkAll}
+use Rattle.model.specs.Items.{itemInFlight, flightOf, mark, unmark, markAll, unmarkAll}
 use Rattle.model.specs.Doorbell.{longEnough, Part, isLevel, inPart, admitted, items, noticedPage, handedBytes, written}
 use Rattle.model.specs.Registers.{class, ppr}
 use Rattle.model.specs.Ipi.{icrItem, icrTarget, sent, reachedBits}
@@ -128,7 +128,7 @@ unfoldable pub vcpuVerdict : ℕ → ℕ → Vcpu → Act Bytes → Verdict
 vcpuVerdict i k v (notice p) = need (isActive (v .phase)) NotActive (need (longEnough p) ShortPage accept)
 vcpuVerdict i k v (call op c x) = need (isActive (v .phase)) NotActive (callVerdict (requestOf op c x) i k (forget v))
 vcpuVerdict i k v (entry iF sh bl) = need (isActive (v .phase)) NotActive accept
-vcpuVerdict i k v nonDelivery = need (isActive (v .phase)) NotActive (need (flies (v .flight)) NothingInFlight accept)
+vcpuVerdict i k v nonDelivery = need (isActive (v .phase)) NotActive (need (isInFlight (v .flight)) NothingInFlight accept)
 vcpuVerdict i k v (handBack p iF sh) = need (isLeaving (v .phase)) NotLeaving (need (longEnough p) ShortPage accept)
 
 -- the vCPU number before all else (11.1, 11.12)
@@ -173,7 +173,7 @@ effect l i k v (call op c x) = callEffect (requestOf op c x) i k v
 effect l i k v (entry iF sh bl) =
     record { reply = gives (answers (offer iF sh bl v)); vcpu = entered (offer iF sh bl v) (forget v); registrations = k; page = [] }
 effect l i k v nonDelivery =
-    record { reply = gives (done 0); vcpu = undelivered (flying (v .flight)) v; registrations = k; page = [] }
+    record { reply = gives (done 0); vcpu = undelivered (itemInFlight (v .flight)) v; registrations = k; page = [] }
 effect l i k v (handBack p iF sh) =
     record {
       reply = gives (done (handBackResult l (v .tpr) iF sh));

@@ -13,21 +13,25 @@ use Rattle.model.specs.declared.Vcpu.{Vcpu}
 use Rattle.model.specs.State.{withIrr, withNmi}
 use Rattle.vector_set.specs.Sets.{has, collect, empty, insert, remove}
 
+-- a vector is below 256
 abbrev pub InRange : Item → Type 0
 InRange Nmi = Unit {0}
 InRange (Vector v) = v < 256
 
+-- the item is the NMI
 abbrev pub isNmi : Item → Bool
 isNmi Nmi = true
 isNmi (Vector v) = false
 
-abbrev pub isThe : ℕ → Item → Bool
-isThe y Nmi = false
-isThe y (Vector v) = eqb v y
+-- the item is the vector y
+abbrev pub isVectorItem : ℕ → Item → Bool
+isVectorItem y Nmi = false
+isVectorItem y (Vector v) = eqb v y
 
+-- two items are the same
 abbrev pub sameItem : Item → Item → Bool
 sameItem x Nmi = isNmi x
-sameItem x (Vector y) = isThe y x
+sameItem x (Vector y) = isVectorItem y x
 
 -- x is the item that there may be
 abbrev pub isItem : Item → Option Item → Bool
@@ -41,10 +45,10 @@ memberOf (Vector v) = v
 
 -- ---- in flight
 -- the item in flight, if one is (2.11)
-abbrev pub flying : InFlight → Option Item
-flying flight.Nothing = none
-flying flight.Nmi = some Nmi
-flying (flight.Vector v) = some (Vector v)
+abbrev pub itemInFlight : InFlight → Option Item
+itemInFlight flight.Nothing = none
+itemInFlight flight.Nmi = some Nmi
+itemInFlight (flight.Vector v) = some (Vector v)
 
 -- an item that is in flight (8.14)
 abbrev pub flightOf : Item → InFlight

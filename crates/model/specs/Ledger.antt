@@ -1,6 +1,7 @@
 -- The ledger: how often an item was presented, admitted, sent and returned on a vCPU, folded once over a list with its results (section 12).
 -- It is read from the events, the results and the book.
 -- Assumes nothing.
+use mathlib.Core.Path.{_≡_}
 use mathlib.Core.Bool.{Bool, true, false, cond, _&&_, _||_}
 use mathlib.Core.List.{List, [], _∷_}
 use mathlib.Core.Option.{Option}
@@ -12,8 +13,8 @@ use Rattle.model.specs.declared.Target.{Target}
 use Rattle.model.specs.declared.Target.the-variants.{Caller}
 use Rattle.model.specs.declared.Module.{Module}
 use Rattle.model.specs.State.{isActive, vcpuAt}
-use Rattle.model.specs.Codes.{Result, accepted, presentedBy}
-use Rattle.model.specs.Items.{sameItem, isItem, flying}
+use Rattle.model.specs.Codes.{Result, refused, accepted, presentedBy}
+use Rattle.model.specs.Items.{sameItem, isItem, itemInFlight}
 use Rattle.model.specs.Doorbell.{Part, inPart}
 use Rattle.model.specs.Ipi.{icrItem, icrTarget, hits}
 use Rattle.model.specs.Events.{Act, notice, call, entry, nonDelivery, handBack, Bytes, Event}
@@ -79,4 +80,11 @@ opened o = record { presented = 0; admitted = 0; sent = 0; returned = 0; latest 
 
 -- of the list es played on the module m (13.28)
 abbrev pub ledgerOf : Module → ℕ → Item → List Event → Ledger
-ledgerOf m j x es = ledger j x (m .vmpl) (bookOf m) es (results m es) (opened (flying (vcpuAt m j .flight)))
+ledgerOf m j x es = ledger j x (m .vmpl) (bookOf m) es (results m es) (opened (itemInFlight (vcpuAt m j .flight)))
+
+-- nothing is posted for a refused event, which admits nothing, or for a call that writes no register
+pub record Quiet : Type 0 where
+  pub refusals : (j : ℕ) (x : Item) (s : Part) (w : Book) (i : ℕ) (a : Act Bytes) (c : ℕ) (g : Ledger) → inPart x s ≡ false
+      → postAct j x s w i a (refused c) g ≡ g
+  pub reads : (j : ℕ) (x : Item) (s : Part) (w : Book) (i op c y : ℕ) (a : Result) (g : Ledger) → eqb op 3 ≡ false
+      → postAct j x s w i (call op c y) a g ≡ g

@@ -25,6 +25,6 @@ pub record Sound (v : Vcpu) : Type 0 where
   pub irr : Levelled (v .irr) (v .«irr_level»)
   pub isr : Levelled (v .isr) (v .«isr_level»)
   -- a vector in flight is in service
-  pub serving : (x : ℕ) → v .flight ≡ flight.Vector x → has (v .isr) x ≡ true
+  pub inService : (x : ℕ) → v .flight ≡ flight.Vector x → has (v .isr) x ≡ true
   -- where the vCPU is not active nothing is in flight
-  pub settled : isActive (v .phase) ≡ false → v .flight ≡ flight.Nothing
+  pub inactive : isActive (v .phase) ≡ false → v .flight ≡ flight.Nothing

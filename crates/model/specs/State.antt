@@ -27,10 +27,10 @@ isLeaving Leaving = true
 isLeaving Left = false
 
 -- something is in flight (2.11)
-abbrev pub flies : InFlight → Bool
-flies Nothing = false
-flies Nmi = true
-flies (Vector v) = true
+abbrev pub isInFlight : InFlight → Bool
+isInFlight Nothing = false
+isInFlight Nmi = true
+isInFlight (Vector v) = true
 
 -- ---- a record by its parts: A, P, S, PL, SL, the NMI mark, TPR, ICR, the phase, what is in flight
 -- the record with these parts (2.3, 2.8 to 2.12)

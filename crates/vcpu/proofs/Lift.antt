@@ -24,7 +24,7 @@ use Rattle.model.specs.declared.Module.{Module}
 use Rattle.model.specs.State.{isActive, absent, size, vcpuAt, withVcpu, withRegistrations, withIcr}
 use Rattle.model.specs.Doorbell.{isVector, admitted, noticedPage, written}
 use Rattle.model.specs.Codes.{codeOf, Verdict, accept, refuse, refused}
-use Rattle.model.specs.Items.{flying, mark}
+use Rattle.model.specs.Items.{itemInFlight, mark}
 use Rattle.model.specs.Ipi.{icrLegal, icrItem, icrTarget, hits, reached, reach, mapFrom, sent, reachedBits}
 use Rattle.model.specs.Requests.{requestOf, registration, readBy, writeBy, writeValue, nameable, permission, forget}
 use Rattle.model.specs.Registers.{kindOf}
@@ -82,7 +82,7 @@ by-entry (refuse c) m i iF sh bl = kept m i c []
 by-entry accept m i iF sh bl = refl
 
 by-nonDelivery : (g : Verdict) (m : Module) (i : ℕ)
-    → decided g m (at i nonDelivery) ≡ onRecord m i (nonDeliveryOn g (flying (vcpuAt m i .flight)) (vcpuAt m i)) []
+    → decided g m (at i nonDelivery) ≡ onRecord m i (nonDeliveryOn g (itemInFlight (vcpuAt m i .flight)) (vcpuAt m i)) []
 unfolding effect concluded withVcpu withRegistrations nonDeliveryOn
 by-nonDelivery (refuse c) m i = kept m i c []
 by-nonDelivery accept m i = refl
@@ -110,7 +110,7 @@ module _ (m : Module) (i : ℕ) (h : i < size m) where
 
   pub lift-nonDelivery :
       step m (at i nonDelivery)
-      ≡ onRecord m i (nonDeliveryOn (vcpuVerdict 0 0 (vcpuAt m i) nonDelivery) (flying (vcpuAt m i .flight)) (vcpuAt m i)) []
+      ≡ onRecord m i (nonDeliveryOn (vcpuVerdict 0 0 (vcpuAt m i) nonDelivery) (itemInFlight (vcpuAt m i .flight)) (vcpuAt m i)) []
   unfolding step vcpuVerdict
   lift-nonDelivery = rw (known m i nonDelivery h) (by-nonDelivery _ m i)
 

@@ -2,7 +2,7 @@
 ghost use mathlib.Core.Path.{_≡_};
 ghost use mathlib.Core.Option.{some};
 ghost use Rattle.model.specs.Codes.{Answer, Result, presentedResult};
-ghost use Rattle.model.specs.Items.{flying};
+ghost use Rattle.model.specs.Items.{itemInFlight};
 ghost use Rattle.model.specs.Requests.{forget};
 ghost use Rattle.vector_set.specs.Sets.{highest};
 ghost use Rattle.model.specs.Registers.{ppr};
@@ -152,7 +152,7 @@ fn returned(vcpu: Vcpu) -> VcpuStepped
 
 // A non-delivery on one record: what was in flight is pending again (9.2 to 9.7).
 pub fn non_delivery_vcpu(v: Vcpu) -> VcpuStepped
-    ensures { λ r. ⌜ steppedOut r ≡ nonDeliveryOn (vcpuVerdict 0 0 v Act.nonDelivery) (flying (v .flight)) v ⌝ }
+    ensures { λ r. ⌜ steppedOut r ≡ nonDeliveryOn (vcpuVerdict 0 0 v Act.nonDelivery) (itemInFlight (v .flight)) v ⌝ }
 {
     let phase = v.phase;
     let Phase::Active = phase else {

@@ -6,7 +6,7 @@ use Prim.Native.Nat.{_≤_}
 use denote.Struct.Laws as LL
 use types.Kit.{move}
 use Rattle.model.specs.State.{size, vcpuAt, withVcpu}
-use Rattle.model.specs.Items.{flying}
+use Rattle.model.specs.Items.{itemInFlight}
 use Rattle.model.specs.Events.{nonDelivery, at, vcpuVerdict, step, outOf}
 use Rattle.model.specs.declared.Vcpu.{Vcpu}
 use Rattle.model.specs.declared.Module.{Module}
@@ -41,7 +41,7 @@ use Rattle.gate_mut_entries.proofs.non_delivery_in.Code as code
 
 -- what the step of the record answers
 abbrev Answer : Vcpu → VcpuStepped → Type 0
-Answer v r = steppedOut r ≡ nonDeliveryOn (vcpuVerdict 0 0 v nonDelivery) (flying (v .flight)) v
+Answer v r = steppedOut r ≡ nonDeliveryOn (vcpuVerdict 0 0 v nonDelivery) (itemInFlight (v .flight)) v
 
 -- what the contract says, and that it holds at each way out
 abbrev Says : Module → ℕ → Outcome → Module → Type 0

@@ -5,9 +5,9 @@ use borrow.Author.Needs.{needs}
 use Rattle.model.specs.declared.Refusal.the-variants.{NotActive, NothingInFlight}
 use Rattle.model.specs.declared.InFlight.{InFlight}
 use Rattle.model.specs.declared.Vcpu.{Vcpu}
-use Rattle.model.specs.State.{isActive, flies}
+use Rattle.model.specs.State.{isActive, isInFlight}
 use Rattle.model.specs.Codes.{accept, need, done}
-use Rattle.model.specs.Items.{flying}
+use Rattle.model.specs.Items.{itemInFlight}
 use Rattle.model.specs.Events.{nonDelivery, vcpuVerdict}
 use Rattle.vcpu.specs.Records.{VcpuOut, steppedOut, nonDeliveryOn}
 use Rattle.vcpu.proofs.Told.{not-active}
@@ -17,10 +17,10 @@ use Rattle.vcpu_entries.proofs.non_delivery_vcpu.Tie as tie
 
 -- the definition by whether the vCPU is active and by what is in flight
 at : Vcpu → Bool → InFlight → VcpuOut
-at v b f = nonDeliveryOn (need b NotActive (need (flies f) NothingInFlight accept)) (flying f) v
+at v b f = nonDeliveryOn (need b NotActive (need (isInFlight f) NothingInFlight accept)) (itemInFlight f) v
 
 at-is : (v : Vcpu) (b : Bool) (f : InFlight) → isActive (v .phase) ≡ b → v .flight ≡ f
-    → at v b f ≡ nonDeliveryOn (vcpuVerdict 0 0 v nonDelivery) (flying (v .flight)) v
+    → at v b f ≡ nonDeliveryOn (vcpuVerdict 0 0 v nonDelivery) (itemInFlight (v .flight)) v
 unfolding at vcpuVerdict
 at-is v b f e h = ap₂ (at v) (sym e) (sym h)
 

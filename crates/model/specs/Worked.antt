@@ -1,0 +1,274 @@
+-- Further worked cases (14.21 to 14.41), for what no claim says otherwise, and all cases in one proposition.
+-- Assumes nothing.
+use mathlib.Core.Path.{_≡_}
+use mathlib.Core.Bool.{Bool, true, false, not, _&&_}
+use mathlib.Core.List.{List, [], _∷_}
+use Prim.Native.Nat.{ℕ, zero, suc, _+_}
+use lib.Dec.{eqb}
+use lib.ListN.{length, replicate, set}
+use Rattle.model.specs.declared.Phase.{Phase}
+use Rattle.model.specs.declared.Phase.the-variants.{Active, Leaving, Left}
+use Rattle.model.specs.declared.Item.{Item}
+use Rattle.model.specs.declared.Item.the-variants as item
+use Rattle.model.specs.declared.Vcpu.{Vcpu}
+use Rattle.model.specs.declared.Module.{Module}
+use Rattle.vector_set.specs.Sets.{empty, insert}
+use Rattle.model.specs.Items.{sameItem, isItem}
+use Rattle.model.specs.State.{vcpuAt, start, withIrr, withIsr, withIrrLevel, withIsrLevel, withNmi, withTpr, withPhase}
+use Rattle.model.specs.Codes.{Answer, nothing, presents, window, Result, done, answers, refused}
+use Rattle.model.specs.Registers.{kindOf}
+use Rattle.model.specs.Causes.{isKindNone, isKindRead, isKindWrite}
+use Rattle.model.specs.declared.Kind.{Kind}
+use Rattle.vector_set.specs.Bits.{one}
+use Rattle.model.specs.Lists.{results, pages, struck, Alike}
+use Rattle.model.specs.Ledger.{Ledger, ledgerOf}
+use Rattle.model.specs.Events.{notice, call, entry, nonDelivery, handBack, at, Event, Out, step, next}
+use Rattle.model.specs.Cases.{sameNumbers, gives, isRefused, isIdle, isNothing, fresh2, having, record0, singleton, zeros, announcing, byte64, onPage, resultOn, level61, pending41, every, Starred}
+
+-- ---- what the cases use
+-- n bytes b from byte i on
+abbrev filled : ℕ → ℕ → ℕ → List ℕ → List ℕ
+filled i b zero p = p
+filled i b (suc n) p = set (filled i b n p) (i + n) b
+
+abbrev ones : List ℕ
+ones = replicate 256 0xFF
+
+abbrev pageAfter : Module → Event → List ℕ
+pageAfter m e = step m e .page
+
+-- the record of case 14.24, leaving
+abbrev mixed : Vcpu
+mixed =
+    withPhase Leaving
+    (withTpr 0x20
+    (withNmi true
+    (withIsrLevel (singleton 0x33) (withIsr (insert 0x33 (singleton 0x52)) (withIrrLevel (singleton 0x61) (withIrr (insert 0x61 (singleton 0x41)) record0))))))
+
+abbrev nested : Module
+nested = having (withIsrLevel (singleton 0x41) (withIsr (insert 0x61 (singleton 0x41)) record0))
+
+abbrev eoi : Event
+eoi = at 0 (call 3 0x80B 0)
+
+-- an ICR write by vCPU 0, of 2 and of 18
+abbrev icr : ℕ → Event
+icr x = at 0 (call 3 0x830 x)
+
+abbrev refuses : ℕ → Bool
+refuses x = isRefused 0x80000005 (resultOn fresh2 (icr x))
+
+abbrev reachesOf18 : ℕ → ℕ → Bool
+reachesOf18 mask x = gives mask (resultOn (start 18 1) (icr x))
+
+abbrev reads : ℕ → ℕ → Vcpu → Bool
+reads x r v = gives x (resultOn (having v) (at 0 (call 2 r 0)))
+
+-- how many of the n registers from r on have a kind of which t holds
+abbrev kinds : (Kind → Bool) → ℕ → ℕ → ℕ
+kinds t r zero = 0
+kinds t r (suc n) = one (t (kindOf (r + n))) + kinds t r n
+
+abbrev isShown : Item → Answer → Bool
+isShown x nothing = false
+isShown x (presents y) = sameItem x y
+isShown x (window w) = false
+
+abbrev isWindow : ℕ → Answer → Bool
+isWindow v nothing = false
+isWindow v (presents y) = false
+isWindow v (window w) = eqb v w
+
+-- the answer of an entry
+abbrev answersBy : (Answer → Bool) → Result → Bool
+answersBy t (done x) = false
+answersBy t (answers a) = t a
+answersBy t (refused c) = false
+
+abbrev enters : Bool → Bool → Bool → Event
+enters iF sh bl = at 0 (entry iF sh bl)
+
+abbrev nmi41 : Module
+nmi41 = having (withNmi true (withIrr (singleton 0x41) record0))
+
+-- the module of case 14.8 after an entry and a non-delivery
+abbrev given61 : Module
+given61 = next (next level61 (enters true false false)) (at 0 nonDelivery)
+
+-- a notice of the NMI, allowed, and an NMI from vCPU 0 to the others
+abbrev nmiNotice : Out
+nmiNotice = onPage (singleton 2) (set announcing 65 0x01)
+
+abbrev nmiSent : Module
+nmiSent = next fresh2 (icr 0xC4400)
+
+abbrev handedRecord : Vcpu
+handedRecord = vcpuAt (next (having mixed) (at 0 (handBack ones false true))) 0
+
+abbrev hasLeft : Phase → Bool
+hasLeft Active = false
+hasLeft Leaving = false
+hasLeft Left = true
+
+unfoldable pub further : List Bool
+further =
+    -- 14.21, 14.22, 14.23: what a notice clears
+    sameNumbers (pageAfter fresh2 (at 0 (notice ones))) (filled 68 0 28 (set (set (set (set ones 3 0xFE) 64 0) 65 0xB8) 67 0x7F))
+    ∷ sameNumbers (pageAfter fresh2 (at 0 (notice (set ones 65 0xBF)))) (set (set (set ones 3 0xFE) 64 0) 65 0xB8)
+    ∷ sameNumbers (pageAfter (start 2 3) (at 0 (notice ones))) (filled 196 0 28 (set (set (set (set ones 3 0xFB) 192 0) 193 0xB8) 195 0x7F))
+    -- 14.24: what a hand-back writes
+    ∷ sameNumbers (pageAfter (having mixed) (at 0 (handBack ones false true)))
+    (set (set (set (set (filled 64 0 64 ones) 64 0x61) 65 0x45) 72 0x02) 106 0x04)
+    ∷ gives 73730 (resultOn (having mixed) (at 0 (handBack ones false true)))
+    -- 14.25: PPR
+    ∷ reads 0x40 0x80A (withTpr 0x40 (withIsr (singleton 0x41) record0))
+    ∷ reads 0x40 0x80A (withTpr 0x3F (withIsr (singleton 0x41) record0))
+    ∷ reads 0x2C 0x80A (withTpr 0x2C record0)
+    -- 14.26: EOI
+    ∷ gives 0 (resultOn nested eoi)
+    ∷ gives 0x41 (resultOn (next nested eoi) eoi)
+    ∷ gives 0 (resultOn (next (next nested eoi) eoi) eoi)
+    -- 14.27: the words of ISR, TMR and IRR
+    ∷ reads 0x80000000 0x811 (withIsr (singleton 0x3F) record0)
+    ∷ reads 1 0x819 (withIsrLevel (singleton 0xFF) (withIrrLevel (singleton 0x20) record0))
+    ∷ reads 0x80000000 0x81F (withIsrLevel (singleton 0xFF) (withIrrLevel (singleton 0x20) record0))
+    ∷ reads 0 0x818 (withIsrLevel (singleton 0xFF) (withIrrLevel (singleton 0x20) record0))
+    ∷ reads 1 0x827 (withIrr (singleton 0xE0) record0)
+    -- 14.28: values that the ICR does not take
+    ∷ refuses 0x0041
+    ∷ refuses 0x5041
+    ∷ refuses 0x6041
+    ∷ refuses 0xC041
+    ∷ refuses 0x14041
+    ∷ refuses 0x24041
+    ∷ refuses 0x104041
+    ∷ refuses 0x80004041
+    ∷ refuses 0x4141
+    ∷ refuses 0x401E
+    ∷ refuses 0x44400
+    ∷ refuses 0x84400
+    -- 14.29, 14.30: whom an IPI reaches
+    ∷ reachesOf18 0x3FFFE 0xC4400
+    ∷ reachesOf18 0x00001 0x44041
+    ∷ reachesOf18 0x3FFFF 0x84041
+    ∷ reachesOf18 0x3FFFF 0xFFFFFFFF00004041
+    ∷ reachesOf18 0x3FFFF 0xFFFFFFFF00004841
+    ∷ reachesOf18 0x30000 0x0001000300004841
+    ∷ reachesOf18 0x00006 0x0000000600004841
+    ∷ reachesOf18 0x00020 0x0000000500004041
+    ∷ reachesOf18 0x00000 0x0000001200004041
+    -- 14.31: a self-IPI answers its caller's bit, and stores nothing in the ICR
+    ∷ gives 2 (resultOn fresh2 (at 1 (call 3 0x83F 0x41)))
+    ∷ gives 0 (resultOn (next fresh2 (at 1 (call 3 0x83F 0x41))) (at 1 (call 2 0x830 0)))
+    -- 14.32: TPR and ICR read as written
+    ∷ gives 0x2F (resultOn (next fresh2 (at 0 (call 3 0x808 0x2F))) (at 0 (call 2 0x808 0)))
+    ∷ gives 0x1200004041 (resultOn (next fresh2 (icr 0x1200004041)) (at 0 (call 2 0x830 0)))
+    -- 14.33: how many registers of each kind there are
+    ∷ eqb (kinds isKindRead 0x800 256) 27
+    ∷ eqb (kinds isKindWrite 0x800 256) 2
+    ∷ eqb (kinds isKindNone 0x800 256) 225
+    -- 14.34: window
+    ∷ answersBy (isWindow 0x41) (resultOn (pending41 0x3F) (enters false false false))
+    ∷ answersBy (isWindow 0x41) (resultOn (pending41 0x3F) (enters true true false))
+    -- 14.35: the NMI before a vector, and held
+    ∷ answersBy (isShown item.Nmi) (resultOn nmi41 (enters true false false))
+    ∷ answersBy (isShown (item.Vector 0x41)) (resultOn (next nmi41 (enters true false false)) (enters true false false))
+    ∷ answersBy (isShown (item.Vector 0x41)) (resultOn nmi41 (enters true false true))
+    ∷ answersBy (isWindow 0x41) (resultOn nmi41 (enters true true false))
+    -- 14.36: a level-sensitive vector comes back as one
+    ∷ gives 0 (resultOn (next level61 (enters true false false)) (at 0 nonDelivery))
+    ∷ gives 2 (resultOn given61 (at 0 (call 2 0x823 0)))
+    ∷ gives 0 (resultOn given61 (at 0 (call 2 0x813 0)))
+    ∷ gives 2 (resultOn given61 (at 0 (call 2 0x81B 0)))
+    ∷ gives 0x61 (resultOn (next given61 (enters true false false)) eoi)
+    -- 14.37: an NMI by a notice, returned
+    ∷ gives 1 (nmiNotice .result)
+    ∷ answersBy (isShown item.Nmi) (resultOn (nmiNotice .after) (enters false false false))
+    ∷ answersBy (isShown item.Nmi) (resultOn (next (next (nmiNotice .after) (enters false false false)) (at 0 nonDelivery)) (enters false false false))
+    -- 14.38: an NMI by an IPI
+    ∷ gives 2 (resultOn fresh2 (icr 0xC4400))
+    ∷ answersBy (isShown item.Nmi) (resultOn nmiSent (at 1 (entry false false false)))
+    ∷ isNothing (resultOn nmiSent (enters true false false))
+    -- 14.39: the record after a hand-back
+    ∷ sameNumbers (handedRecord .allowed) empty
+    ∷ sameNumbers (handedRecord .irr) empty
+    ∷ sameNumbers (handedRecord .isr) empty
+    ∷ sameNumbers (handedRecord .«irr_level») empty
+    ∷ sameNumbers (handedRecord .«isr_level») empty
+    ∷ not (handedRecord .nmi)
+    ∷ eqb (handedRecord .tpr) 0x20
+    ∷ hasLeft (handedRecord .phase)
+    -- 14.40: calls that give 0
+    ∷ gives 0 (resultOn fresh2 (at 0 (call 0 7 7)))
+    ∷ gives 0 (resultOn fresh2 (at 0 (call 1 0 7)))
+    ∷ gives 0 (resultOn fresh2 (at 0 (call 1 2 7)))
+    ∷ []
+
+-- ---- a worked list (14.41), on one vCPU
+abbrev story : List Event
+story =
+    at 0 (call 4 0x141 0)
+    ∷ at 0 (notice byte64)
+    ∷ enters true false false
+    ∷ at 0 nonDelivery
+    ∷ enters true false false
+    ∷ at 0 (call 3 0x83F 0x41)
+    ∷ icr 0x0041
+    ∷ eoi
+    ∷ enters true false false
+    ∷ at 0 (notice [])
+    ∷ at 1 nonDelivery
+    ∷ at 0 (call 1 1 0)
+    ∷ at 0 (handBack zeros true false)
+    ∷ []
+
+-- equal results
+abbrev sameAnswer : Answer → Answer → Bool
+sameAnswer nothing b = isIdle b
+sameAnswer (presents y) b = isShown y b
+sameAnswer (window v) b = isWindow v b
+
+abbrev sameResult : Result → Result → Bool
+sameResult (done x) r = gives x r
+sameResult (answers a) r = answersBy (sameAnswer a) r
+sameResult (refused c) r = isRefused c r
+
+abbrev sameResults : List Result → List Result → Bool
+sameResults [] [] = true
+sameResults [] (s ∷ ss) = false
+sameResults (r ∷ rs) [] = false
+sameResults (r ∷ rs) (s ∷ ss) = sameResult r s && sameResults rs ss
+
+abbrev samePages : List (List ℕ) → List (List ℕ) → Bool
+samePages [] [] = true
+samePages [] (q ∷ qs) = false
+samePages (p ∷ ps) [] = false
+samePages (p ∷ ps) (q ∷ qs) = sameNumbers p q && samePages ps qs
+
+abbrev shown41 : Result
+shown41 = answers (presents (item.Vector 0x41))
+
+-- its tallies of vector 0x41 on vCPU 0
+abbrev tallies : Ledger
+tallies = ledgerOf (start 1 1) 0 (item.Vector 0x41) story
+
+unfoldable pub listed : List Bool
+listed =
+    sameResults (results (start 1 1) story)
+    (done 0 ∷ done 1 ∷ shown41 ∷ done 0 ∷ shown41 ∷ done 1 ∷ refused 0x80000005 ∷ done 0 ∷ shown41 ∷ refused 2 ∷ refused 1 ∷ done 0 ∷ done 65537 ∷ [])
+    ∷ samePages (pages (start 1 1) story) (set zeros 104 0x02 ∷ [])
+    ∷ eqb (length (struck story)) 11
+    ∷ eqb (tallies .presented) 3
+    ∷ eqb (tallies .admitted) 1
+    ∷ eqb (tallies .sent) 1
+    ∷ eqb (tallies .returned) 1
+    ∷ isItem (item.Vector 0x41) (tallies .latest)
+    ∷ []
+
+-- ---- all of them
+pub record Worked : Type 0 where
+  pub starred : Starred
+  pub further : every further ≡ true
+  pub listed : every listed ≡ true
+  -- two notices that differ in a byte are alike
+  pub different : Alike (at 0 (notice byte64)) (at 0 (notice zeros))

@@ -1,0 +1,274 @@
+//! The cases worked here (14.21 to 14.41), on an implementation that was written apart from the definitions.
+
+mod common;
+
+use common::*;
+use reference::calls::call;
+use reference::codes::{BAD_VALUE, SHORT_PAGE, UNKNOWN_VCPU};
+use reference::events::{entry, hand_back, non_delivery, notice, Shown};
+use reference::registers::{kind, Kind};
+use reference::state::{Item, Module, Phase};
+
+const EOI: u32 = 0x80B;
+const ICR: u32 = 0x830;
+const SELF_IPI: u32 = 0x83F;
+
+fn presented(vector: usize) -> Shown {
+    Shown::Presented(Item::Vector(vector))
+}
+
+/// A page of 0xFF but for these.
+fn ones(bytes: &[(usize, u8)]) -> Vec<u8> {
+    let mut page = vec![0xFF; 256];
+    for &(offset, byte) in bytes {
+        page[offset] = byte;
+    }
+    page
+}
+
+/// What 14.21 says of a page whose descriptor begins at this byte.
+fn cleared(at: usize, byte_3: u8) -> Vec<u8> {
+    let mut page = ones(&[(3, byte_3), (at, 0), (at + 1, 0xB8), (at + 3, 0x7F)]);
+    page[at + 4..at + 32].fill(0);
+    page
+}
+
+/// 14.21, 14.22, 14.23
+#[test]
+fn what_a_notice_clears() {
+    let mut p = ones(&[]);
+    assert_eq!(notice(&mut fresh(2, 1), 0, &mut p), Ok(0));
+    assert_eq!(p, cleared(64, 0xFE));
+    let mut p = ones(&[(65, 0xBF)]);
+    assert_eq!(notice(&mut fresh(2, 1), 0, &mut p), Ok(0));
+    assert_eq!(p, ones(&[(3, 0xFE), (64, 0), (65, 0xB8)]));
+    let mut p = ones(&[]);
+    assert_eq!(notice(&mut fresh(2, 3), 0, &mut p), Ok(0));
+    assert_eq!(p, cleared(192, 0xFB));
+}
+
+/// 14.24, 14.39
+#[test]
+fn what_a_hand_back_writes_and_leaves() {
+    let mut m = fresh(2, 1);
+    let r = &mut m.records[0];
+    r.pending = set(&[0x41, 0x61]);
+    r.pending_level = set(&[0x61]);
+    r.service = set(&[0x33, 0x52]);
+    r.serving_level = set(&[0x33]);
+    r.nmi = true;
+    r.tpr = 0x20;
+    r.phase = Phase::Leaving;
+    let mut p = ones(&[]);
+    assert_eq!(hand_back(&mut m, 0, &mut p, false, true), Ok(73730));
+    let mut q = ones(&[]);
+    q[64..128].fill(0);
+    for (offset, byte) in [(64, 0x61), (65, 0x45), (72, 0x02), (106, 0x04)] {
+        q[offset] = byte;
+    }
+    assert_eq!(p, q);
+    let mut left = fresh(2, 1);
+    left.records[0].tpr = 0x20;
+    left.records[0].phase = Phase::Left;
+    assert_eq!(m, left);
+}
+
+/// 14.25, 14.26, 14.27
+#[test]
+fn registers_and_eois() {
+    for (service, tpr, ppr) in [
+        (&[0x41][..], 0x40, 0x40),
+        (&[0x41], 0x3F, 0x40),
+        (&[], 0x2C, 0x2C),
+    ] {
+        let mut m = fresh(2, 1);
+        m.records[0].service = set(service);
+        m.records[0].tpr = tpr;
+        assert_eq!(read(&mut m, 0, 0x80A), Ok(ppr));
+    }
+    let mut m = fresh(2, 1);
+    m.records[0].service = set(&[0x41, 0x61]);
+    m.records[0].serving_level = set(&[0x41]);
+    for value in [0, 0x41, 0] {
+        assert_eq!(write(&mut m, 0, EOI, 0), Ok(value));
+    }
+    let mut m = fresh(2, 1);
+    m.records[0].service = set(&[0x3F]);
+    m.records[0].pending = set(&[0xE0]);
+    m.records[0].pending_level = set(&[0x20]);
+    m.records[0].serving_level = set(&[0xFF]);
+    for (register, value) in [
+        (0x811, 1 << 31),
+        (0x818, 0),
+        (0x819, 1),
+        (0x81F, 1 << 31),
+        (0x827, 1),
+    ] {
+        assert_eq!(read(&mut m, 0, register), Ok(value));
+    }
+}
+
+/// 14.28
+#[test]
+fn values_that_the_icr_does_not_take() {
+    for value in [
+        0x0041,
+        0x5041,
+        0x6041,
+        0xC041,
+        0x14041,
+        0x24041,
+        0x104041,
+        0x8000_4041,
+        0x4141,
+        0x401E,
+        0x44400,
+        0x84400,
+    ] {
+        assert_eq!(
+            write(&mut fresh(2, 1), 0, ICR, value),
+            Err(BAD_VALUE),
+            "{value:#x}"
+        );
+    }
+}
+
+/// 14.29, 14.30
+#[test]
+fn whom_an_ipi_reaches() {
+    for (value, mask) in [
+        (0xC4400, 0x3FFFE),
+        (0x44041, 1),
+        (0x84041, 0x3FFFF),
+        (0xFFFF_FFFF_0000_4041, 0x3FFFF),
+        (0xFFFF_FFFF_0000_4841, 0x3FFFF),
+        (0x0001_0003_0000_4841, 0x30000),
+        (0x0000_0006_0000_4841, 6),
+        (0x0000_0005_0000_4041, 0x20),
+        (0x0000_0012_0000_4041, 0),
+    ] {
+        assert_eq!(
+            write(&mut fresh(18, 1), 0, ICR, value),
+            Ok(mask),
+            "{value:#x}"
+        );
+    }
+}
+
+/// 14.31, 14.32, 14.40
+#[test]
+fn what_is_stored_and_answered() {
+    let mut m = fresh(2, 1);
+    assert_eq!(write(&mut m, 1, SELF_IPI, 0x41), Ok(2));
+    assert_eq!(read(&mut m, 1, ICR), Ok(0));
+    assert_eq!(write(&mut m, 0, 0x808, 0x2F), Ok(0));
+    assert_eq!(read(&mut m, 0, 0x808), Ok(0x2F));
+    assert_eq!(write(&mut m, 0, ICR, 0x12_0000_4041), Ok(0));
+    assert_eq!(read(&mut m, 0, ICR), Ok(0x12_0000_4041));
+    for (number, ecx) in [(0, 7), (1, LEAVE), (1, REGISTER)] {
+        assert_eq!(call(&mut fresh(2, 1), 0, number, ecx, 7), Ok(0));
+    }
+}
+
+/// 14.33
+#[test]
+fn how_many_registers_have_each_kind() {
+    let count = |k: Kind| (0x800..0x900).filter(|&r| kind(r) == k).count();
+    let counts = [Kind::Read, Kind::Write, Kind::Both, Kind::None].map(count);
+    assert_eq!(counts, [27, 2, 2, 225]);
+}
+
+/// 14.34, 14.35
+#[test]
+fn what_holds_an_item_back() {
+    let pending = |nmi: bool| {
+        let mut m = fresh(2, 1);
+        m.records[0].pending = set(&[0x41]);
+        m.records[0].nmi = nmi;
+        m
+    };
+    assert_eq!(
+        entry(&mut pending(false), 0, false, false, false),
+        Ok(Shown::Window(0x41))
+    );
+    assert_eq!(
+        entry(&mut pending(false), 0, true, true, false),
+        Ok(Shown::Window(0x41))
+    );
+    let mut m = pending(true);
+    assert_eq!(
+        entry(&mut m, 0, true, false, false),
+        Ok(Shown::Presented(Item::Nmi))
+    );
+    assert_eq!(entry(&mut m, 0, true, false, false), Ok(presented(0x41)));
+    assert_eq!(
+        entry(&mut pending(true), 0, true, false, true),
+        Ok(presented(0x41))
+    );
+    assert_eq!(
+        entry(&mut pending(true), 0, true, true, false),
+        Ok(Shown::Window(0x41))
+    );
+}
+
+/// 14.36
+#[test]
+fn a_level_vector_comes_back_as_one() {
+    let mut m = allowing(&[0x61]);
+    assert_eq!(
+        notice(&mut m, 0, &mut page(&[(3, 1), (64, 0x61), (65, 0x04)])),
+        Ok(1)
+    );
+    assert_eq!(entry(&mut m, 0, true, false, false), Ok(presented(0x61)));
+    assert_eq!(non_delivery(&mut m, 0), Ok(0));
+    for (register, value) in [(0x823, 2), (0x813, 0), (0x81B, 2)] {
+        assert_eq!(read(&mut m, 0, register), Ok(value));
+    }
+    assert_eq!(entry(&mut m, 0, true, false, false), Ok(presented(0x61)));
+    assert_eq!(write(&mut m, 0, EOI, 0), Ok(0x61));
+}
+
+/// 14.37, 14.38
+#[test]
+fn nmis() {
+    let mut m = allowing(&[2]);
+    assert_eq!(notice(&mut m, 0, &mut page(&[(3, 1), (65, 0x01)])), Ok(1));
+    assert_eq!(
+        entry(&mut m, 0, false, false, false),
+        Ok(Shown::Presented(Item::Nmi))
+    );
+    assert_eq!(non_delivery(&mut m, 0), Ok(0));
+    assert_eq!(
+        entry(&mut m, 0, false, false, false),
+        Ok(Shown::Presented(Item::Nmi))
+    );
+    let mut m = fresh(2, 1);
+    assert_eq!(write(&mut m, 0, ICR, 0xC4400), Ok(2));
+    assert_eq!(
+        entry(&mut m, 1, false, false, false),
+        Ok(Shown::Presented(Item::Nmi))
+    );
+    assert_eq!(entry(&mut m, 0, true, false, false), Ok(Shown::Nothing));
+}
+
+/// 14.41, but for its tallies
+#[test]
+fn a_worked_list() {
+    let mut m: Module = fresh(1, 1);
+    let shown = Ok(presented(0x41));
+    assert_eq!(call(&mut m, 0, 4, 0x141, 0), Ok(0));
+    assert_eq!(notice(&mut m, 0, &mut page(&[(3, 1), (64, 0x41)])), Ok(1));
+    assert_eq!(entry(&mut m, 0, true, false, false), shown);
+    assert_eq!(non_delivery(&mut m, 0), Ok(0));
+    assert_eq!(entry(&mut m, 0, true, false, false), shown);
+    assert_eq!(write(&mut m, 0, SELF_IPI, 0x41), Ok(1));
+    assert_eq!(write(&mut m, 0, ICR, 0x0041), Err(BAD_VALUE));
+    assert_eq!(write(&mut m, 0, EOI, 0), Ok(0));
+    assert_eq!(entry(&mut m, 0, true, false, false), shown);
+    assert_eq!(notice(&mut m, 0, &mut []), Err(SHORT_PAGE));
+    assert_eq!(non_delivery(&mut m, 1), Err(UNKNOWN_VCPU));
+    assert_eq!(call(&mut m, 0, 1, DEREGISTER, 0), Ok(0));
+    let mut p = page(&[]);
+    assert_eq!(hand_back(&mut m, 0, &mut p, true, false), Ok(65537));
+    assert_eq!(p, page(&[(104, 0x02)]));
+}

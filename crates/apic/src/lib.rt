@@ -1,10 +1,13 @@
 // The values of the APIC's registers.
 ghost use mathlib.Core.Path.{_≡_};
 ghost use mathlib.Core.Option.{Option·getD};
+ghost use Prim.Native.Nat.{_<_};
 ghost use Rattle.vector_set.specs.Sets.{highest, wordOf};
 ghost use Rattle.model.specs.Registers.{pprOf, ldr, registerValue};
 use model::Vcpu;
 use vector_set::Found;
+
+pub mod registers;
 
 // The processor priority for a TPR and the set in service (6.17, 6.18).
 pub fn ppr(tpr: u8, isr: [u32; 8]) -> u8
@@ -27,13 +30,11 @@ fn ldr_of(id: u32) -> u64
     (id / 16) as u64 * 65536 + bit
 }
 
-// The members 32 k to 32 k + 31 of a set, k below 8 (6.14); no bit for another k.
+// The members 32 k to 32 k + 31 of a set (6.14).
 fn word_at(s: [u32; 8], k: u32) -> u64
+    requires { ⌜ k < 8 ⌝ }
     ensures { λ r. ⌜ r ≡ wordOf s k ⌝ }
 {
-    if 8 <= k {
-        return 0;
-    }
     let at = k as usize;
     s[at] as u64
 }
@@ -47,14 +48,17 @@ pub fn register_value(v: Vcpu, id: u32, r: u32) -> u64
     let irr_level = v.irr_level;
     let isr_level = v.isr_level;
     match r {
-        0x802 => id as u64,
-        0x808 => v.tpr as u64,
-        0x80A => ppr(v.tpr, isr) as u64,
-        0x80D => ldr_of(id),
-        0x830 => v.icr,
-        0x810..=0x817 => word_at(isr, r - 0x810),
-        0x818..=0x81F => word_at(vector_set::union(irr_level, isr_level), r - 0x818),
-        0x820..=0x827 => word_at(irr, r - 0x820),
+        registers::ID => id as u64,
+        registers::TPR => v.tpr as u64,
+        registers::PPR => ppr(v.tpr, isr) as u64,
+        registers::LDR => ldr_of(id),
+        registers::ICR => v.icr,
+        registers::ISR..=registers::ISR_LAST => word_at(isr, r - registers::ISR),
+        registers::TMR..=registers::TMR_LAST => word_at(
+            vector_set::union(irr_level, isr_level),
+            r - registers::TMR,
+        ),
+        registers::IRR..=registers::IRR_LAST => word_at(irr, r - registers::IRR),
         _ => 0,
     }
 }

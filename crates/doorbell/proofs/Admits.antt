@@ -1,6 +1,6 @@
 -- The admitted part of a descriptor by the answers to the tests that the reader makes. Assumes nothing.
-use mathlib.Core.Path.{_≡_, refl, sym, ap, _∙_}
-use mathlib.Core.Bool.{Bool, true, false, cond, not, _&&_, _||_, and-false}
+use mathlib.Core.Path.{_≡_, refl, sym, ap, ap₂, _∙_}
+use mathlib.Core.Bool.{Bool, true, false, cond, not, _&&_, _||_, and-false, and-assoc, or-false}
 use mathlib.Core.List.{List}
 use mathlib.Core.Option.{Option, none, some}
 use Prim.Native.Nat.{ℕ, _<_}
@@ -13,48 +13,46 @@ use Rattle.vector_set.proofs.Laws.{has-collect, has-empty, has-from, has-inters
 use Rattle.model.specs.Doorbell.{bitOf, levelBit, manyBit, isVector, isLevel, Part, admitsNmi, admitsLevel, admitsEdge, admits}
 
 module _ (a d : List ℕ) where
-  pub level-is : {x y z : Bool} → getD d 0 0 < 256 → bitOf d levelBit ≡ x → leb 31 (getD d 0 0) ≡ y → has a (getD d 0 0) ≡ z
-      → admitsLevel a d ≡ cond (x && (y && true) && z) (some (getD d 0 0)) none
+  -- whether the vector of bits 7:0 may be named
+  abbrev named : Bool
+  named = isVector (getD d 0 0) && has a (getD d 0 0)
+
+  pub level-is : {x y : Bool} → bitOf d levelBit ≡ x → named ≡ y → admitsLevel a d ≡ cond (x && y) (some (getD d 0 0)) none
   unfolding admitsLevel
-  level-is h p q r = rw (p, q, r, le-leb (getD d 0 0) 255 (omega arith))
+  level-is p q =
+      ap (λ (t : Bool). cond t (some (getD d 0 0)) none)
+      (and-assoc (bitOf d levelBit) (isVector (getD d 0 0)) (has a (getD d 0 0)) ∙ ap₂ _&&_ p q)
 
   -- ---- bit 14 clear: at most the one vector
-  one-at : (x y z : Bool) → bitOf d manyBit ≡ false → getD d 0 0 < 256 → bitOf d levelBit ≡ x → leb 31 (getD d 0 0) ≡ y → has a (getD d 0 0) ≡ z
-      → (v : ℕ) → admitsEdge a d v ≡ (not x && y && z && eqb v (getD d 0 0))
+  one-at : (x y : Bool) → bitOf d manyBit ≡ false → bitOf d levelBit ≡ x → named ≡ y → (v : ℕ) → admitsEdge a d v ≡ (not x && y && eqb v (getD d 0 0))
   unfolding admitsEdge
-  one-at x y z m h p q r v = rw (m, p) (go (eqb v (getD d 0 0)) refl)
+  one-at x y m p q v = rw (m, p) (go (eqb v (getD d 0 0)) refl)
     where
-      swap : (x y z : Bool) → (y && true && z && (not x && true)) ≡ (not x && y && z && true)
-      swap true true true = refl
-      swap true true false = refl
-      swap true false z = refl
-      swap false true true = refl
-      swap false true false = refl
-      swap false false z = refl
-
       drop : (s t w : Bool) → (s && (t && false)) ≡ (w && false)
       drop s t w = ap (λ (u : Bool). s && u) (and-false t) ∙ and-false s ∙ sym (and-false w)
 
-      go : (b : Bool) → eqb v (getD d 0 0) ≡ b → (isVector v && has a v && (not x && b)) ≡ (not x && y && z && b)
+      swap : (s t : Bool) → (s && (t && true)) ≡ (t && s && true)
+      swap true true = refl
+      swap true false = refl
+      swap false true = refl
+      swap false false = refl
+
+      go : (b : Bool) → eqb v (getD d 0 0) ≡ b → (isVector v && has a v && (not x && b)) ≡ (not x && y && b)
       go true e =
           let f : v ≡ getD d 0 0 = eqb-true v (getD d 0 0) e in
-          rw (f, q, r, le-leb (getD d 0 0) 255 (omega arith)) (swap x y z)
-      go false e = drop (isVector v && has a v) (not x) (not x && y && z)
+          ap (λ (k : ℕ). isVector k && has a k && (not x && true)) f ∙ ap (λ (t : Bool). t && (not x && true)) q ∙ swap y (not x)
+      go false e = drop (isVector v && has a v) (not x) (not x && y)
 
-  pub one-is : {x y z : Bool} → bitOf d manyBit ≡ false → getD d 0 0 < 256 → bitOf d levelBit ≡ x → leb 31 (getD d 0 0) ≡ y
-      → has a (getD d 0 0) ≡ z → collect (admitsEdge a d) ≡ cond (not x && y && z) (insert (getD d 0 0) empty) empty
+  pub one-is : {x y : Bool} → bitOf d manyBit ≡ false → bitOf d levelBit ≡ x → named ≡ y
+      → collect (admitsEdge a d) ≡ cond (not x && y) (insert (getD d 0 0) empty) empty
   unfolding insert empty
-  one-is {x} {y} {z} m h p q r =
-      collect-ext (admitsEdge a d) (λ v. not x && y && z && eqb v (getD d 0 0)) (λ v l. one-at x y z m h p q r v) ∙ go (not x && y && z)
+  one-is {x} {y} m p q =
+      collect-ext (admitsEdge a d) (λ v. not x && y && eqb v (getD d 0 0)) (λ v l. one-at x y m p q v) ∙ go (not x && y)
     where
-      tail : (b : Bool) → b ≡ (b || false)
-      tail true = refl
-      tail false = refl
-
       go : (b : Bool) → collect (λ v. b && eqb v (getD d 0 0)) ≡ cond b (insert (getD d 0 0) empty) empty
       go true =
           collect-ext (λ v. eqb v (getD d 0 0)) (λ v. eqb v (getD d 0 0) || has empty v)
-          (λ v l. tail (eqb v (getD d 0 0)) ∙ ap (λ (b : Bool). eqb v (getD d 0 0) || b) (sym (has-empty v l)))
+          (λ v l. sym (or-false (eqb v (getD d 0 0))) ∙ ap (λ (b : Bool). eqb v (getD d 0 0) || b) (sym (has-empty v l)))
       go false = refl
 
   -- ---- bit 14 set: the marked ones

@@ -1,24 +1,24 @@
--- Laws of bytes by their bits: the bytes that `bytesFrom` and `mapBits` make, byte by byte and bit by bit; a part in the middle of a list that was replaced.
+-- Laws of bytes by their bits: the bytes that `bytesFrom` and `mapBits` make, byte by byte and bit by bit; a stretch of a list that was replaced.
 -- Assumes nothing.
 use mathlib.Core.Path.{_≡_, refl, sym, ap, _∙_}
 use mathlib.Core.Bool.{Bool, true, false}
-use mathlib.Core.List.{List, _++_}
+use mathlib.Core.List.{List}
 use mathlib.Core.Logic.{_⊎_, inl, inr, ⊎-elim}
-use Prim.Native.Nat.{ℕ, zero, suc, _+_, _*_, _-_, _/_, _%_, _^_, _<_, _≤_}
+use Prim.Native.Nat.{ℕ, zero, suc, _+_, _*_, _-_, _^_, _<_, _≤_}
 use native.Mathlib.Omega.{arith}
-use native.Mathlib.Nat.{not-suc-le-zero, le-of-suc-le-suc, pow-succ', zero-mul, add-comm, mul-assoc, eq-or-lt-of-le}
+use native.Mathlib.Nat.{pow-succ', zero-mul, add-comm, mul-assoc, eq-or-lt-of-le}
 use lib.Dec.{ltb}
 use native.Mathlib.Numerals.{add-one}
 use lib.Pow.{pow-pos}
-use lib.ListN.{length, getD, take, drop, set, length-append, length-drop, List·getD-append}
-use lib.Seq.{getD-set-same, getD-set-other, ext-getD, getD-take, getD-drop, getD-append-add, length-take-le}
+use lib.ListN.{length, getD, set}
+use lib.Seq.{getD-set-same, getD-set-other, ext-getD}
 use lib.Bits.{bitAnd, and-high}
 use borrow.Author.Tests.{ltb-true, ltb-false}
 use borrow.Author.Count.{below-more}
 use Rattle.vector_set.specs.Bits.{one, bitAt, bits}
 use Rattle.vector_set.proofs.BitLaws.{bits-bit, bits-lt, bits-unique, bit-number}
 use Rattle.model.specs.Doorbell.{bitOf, bytesFrom, mapBits}
-pub use Rattle.model.proofs.Bytes.{bitOf-byte, bytesFrom-at, bytesFrom-length}
+pub use Rattle.model.proofs.Bytes.{bitOf-byte, bytesFrom-at, bytesFrom-length, spliced, spliced-length, spliced-before, spliced-in, spliced-after}
 
 -- where an index stands beside another
 pub split : (j n : ℕ) → (j < n) ⊎ (n ≤ j)
@@ -137,39 +137,6 @@ mask-set k x n = go (bitAt x k) (mask-bit k x)
     go : (b : Bool) → bitAnd x (2 ^ k) ≡ one b * 2 ^ k → b ≡ true
     go true h = refl
     go false h = absurd (n (h ∙ zero-mul (2 ^ k)))
-
--- ---- a part in the middle, replaced by another that is as long
-abbrev pub spliced : List ℕ → ℕ → ℕ → List ℕ → List ℕ
-spliced xs a k ys = take a xs ++ (ys ++ drop k (drop a xs))
-
-module _ (xs : List ℕ) (a k : ℕ) (ys : List ℕ) (inside : a + k ≤ length xs) (long : length ys ≡ k) where
-  before-length : length (take a xs) ≡ a
-  before-length = length-take-le a xs (omega arith)
-
-  pub spliced-length : length (spliced xs a k ys) ≡ length xs
-  spliced-length = simp (length-append, length-drop, before-length, long) (omega arith)
-
-  pub spliced-before : (j : ℕ) → j < a → getD (spliced xs a k ys) j 0 ≡ getD xs j 0
-  spliced-before j h =
-      List·getD-append (take a xs) (ys ++ drop k (drop a xs)) 0 j (omega (arith, before-length)) ∙ getD-take a xs j 0 h
-
-  past : (i : ℕ) → getD (spliced xs a k ys) (a + i) 0 ≡ getD (ys ++ drop k (drop a xs)) i 0
-  past i =
-      ap (λ (n : ℕ). getD (spliced xs a k ys) (n + i) 0) (sym before-length) ∙ getD-append-add (take a xs) (ys ++ drop k (drop a xs)) i 0
-
-  pub spliced-in : (i : ℕ) → i < k → getD (spliced xs a k ys) (a + i) 0 ≡ getD ys i 0
-  spliced-in i h = past i ∙ List·getD-append ys (drop k (drop a xs)) 0 i (omega arith)
-
-  pub spliced-after : (j : ℕ) → a + k ≤ j → getD (spliced xs a k ys) j 0 ≡ getD xs j 0
-  spliced-after j h =
-      let e : j ≡ a + (k + (j - (a + k))) = omega arith in
-      ap (λ (n : ℕ). getD (spliced xs a k ys) n 0) e
-      ∙ past (k + (j - (a + k)))
-      ∙ ap (λ (n : ℕ). getD (ys ++ drop k (drop a xs)) (n + (j - (a + k))) 0) (sym long)
-      ∙ getD-append-add ys (drop k (drop a xs)) (j - (a + k)) 0
-      ∙ getD-drop k (drop a xs) (j - (a + k)) 0
-      ∙ getD-drop a xs (k + (j - (a + k))) 0
-      ∙ ap (λ (n : ℕ). getD xs n 0) (sym e)
 
 -- ---- a list that a loop fills from the front
 pub filled : (xs : List ℕ) (f : ℕ → ℕ) (j : ℕ) → j < length xs → ((i : ℕ) → i < j → getD xs i 0 ≡ f i)

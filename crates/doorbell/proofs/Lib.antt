@@ -2,4 +2,3 @@ pub mod Admits
 pub mod Bytes
 pub mod ClearLaws
 pub mod Notice
-pub mod ServedLaws

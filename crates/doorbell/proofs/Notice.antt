@@ -1,4 +1,4 @@
--- The page after a notice as code leaves it: the descriptor's part replaced by what is left of it, and the announcing bit masked out.
+-- The page after a notice as code leaves it: the descriptor replaced by what is left of it, and the announcing bit masked out.
 -- Assumes nothing.
 use mathlib.Core.Path.{_≡_, refl, sym, ap, _∙_, subst}
 use mathlib.Core.Bool.{Bool, true, false, not, _&&_, or-false}
@@ -15,7 +15,7 @@ use lib.Pow.{pow-lt}
 use borrow.Author.Tests.{lt-leb, le-leb, lt-ltb, le-ltb, eq-eqb, ne-eqb, eqb-true, eqb-false}
 use Rattle.vector_set.specs.Bits.{bitAt}
 use Rattle.vector_set.proofs.BitLaws.{bit-not, bit-pow}
-use Rattle.model.specs.Doorbell.{bitOf, announces, clearsBit, clears}
+use Rattle.model.specs.Doorbell.{bitOf, manyBit, announces, descriptor, Part, noPart, admits, admitted, clearsBit, clears, noticedPage}
 use Rattle.doorbell.proofs.Bytes.{split, place, spliced, spliced-length, spliced-before, spliced-in, spliced-after}
 use Rattle.doorbell.specs.Clear.{clearing}
 use Rattle.doorbell.proofs.ClearLaws.{Cleared, cleared-at, clearing-length, is-clearing, keeps, masks}
@@ -87,11 +87,11 @@ module _ (l : ℕ) (many : Bool) (low : 1 ≤ l) (high : l ≤ 3) where
     abbrev lent : List ℕ
     lent = spliced p (64 * l) 32 rest
 
-    part-length : length (take 32 (drop (64 * l) p)) ≡ 32
-    part-length = length-take-le 32 (drop (64 * l) p) (rw (length-drop (64 * l) p) (omega arith))
+    descriptor-length : length (take 32 (drop (64 * l) p)) ≡ 32
+    descriptor-length = length-take-le 32 (drop (64 * l) p) (rw (length-drop (64 * l) p) (omega arith))
 
     rest-length : length rest ≡ 32
-    rest-length = clearing-length (clearsBit many) (take 32 (drop (64 * l) p)) ∙ part-length
+    rest-length = clearing-length (clearsBit many) (take 32 (drop (64 * l) p)) ∙ descriptor-length
 
     lent-length : length lent ≡ length p
     lent-length = spliced-length p (64 * l) 32 rest (omega arith) rest-length
@@ -106,9 +106,9 @@ module _ (l : ℕ) (many : Bool) (low : 1 ≤ l) (high : l ≤ 3) where
         → Cleared (clears l many) j (getD p j 0) (getD lent j 0)
     kept j n e = subst (Cleared (clears l many) j (getD p j 0)) (sym e) (keeps (clears l many) j (getD p j 0) (small j) n)
 
-    part-byte : (i : ℕ) → i < 32 → Cleared (clears l many) (64 * l + i) (getD p (64 * l + i) 0) (getD lent (64 * l + i) 0)
-    part-byte i h =
-        let c = cleared-at (clearsBit many) (take 32 (drop (64 * l) p)) i (omega (arith, part-length)) in
+    descriptor-byte : (i : ℕ) → i < 32 → Cleared (clears l many) (64 * l + i) (getD p (64 * l + i) 0) (getD lent (64 * l + i) 0)
+    descriptor-byte i h =
+        let c = cleared-at (clearsBit many) (take 32 (drop (64 * l) p)) i (omega (arith, descriptor-length)) in
         let e : getD (take 32 (drop (64 * l) p)) i 0 ≡ getD p (64 * l + i) 0 = getD-take 32 (drop (64 * l) p) i 0 h ∙ getD-drop (64 * l) p i 0 in
         let y : getD lent (64 * l + i) 0 ≡ getD rest i 0 = spliced-in p (64 * l) 32 rest (omega arith) rest-length i h in
         record {
@@ -125,7 +125,7 @@ module _ (l : ℕ) (many : Bool) (low : 1 ≤ l) (high : l ≤ 3) where
         (λ (h : 64 * l ≤ j). ⊎-elim
         (λ (i : j < 64 * l + 32).
         let e : 64 * l + (j - 64 * l) ≡ j = omega arith in
-        subst (λ (k : ℕ). Cleared (clears l many) k (getD p k 0) (getD lent k 0)) e (part-byte (j - 64 * l) (omega arith)))
+        subst (λ (k : ℕ). Cleared (clears l many) k (getD p k 0) (getD lent k 0)) e (descriptor-byte (j - 64 * l) (omega arith)))
         (λ (i : 64 * l + 32 ≤ j). kept j (λ b r. clears-after j b i r) (spliced-after p (64 * l) 32 rest (omega arith) rest-length j i))
         (split j (64 * l + 32)))
         (split j (64 * l))
@@ -151,3 +151,14 @@ module _ (l : ℕ) (many : Bool) (low : 1 ≤ l) (high : l ≤ 3) where
     page-is =
         is-clearing (clears l many) p after
         (length-set lent 3 (bitAnd (getD p 3 0) mask) ∙ lent-length) (λ j h. byte j)
+
+-- ---- the two ways out of taking a notice
+module _ (l : ℕ) (a p : List ℕ) {r : Part} where
+  pub unannounced : announces l p ≡ false → r ≡ noPart → (r ≡ admitted l a p) × (p ≡ noticedPage l p)
+  unfolding admitted noticedPage
+  unannounced n e = (rw n e, rw n)
+
+  pub announced : {q : List ℕ} → announces l p ≡ true → r ≡ admits a (descriptor l p)
+      → q ≡ clearing (clears l (bitOf (descriptor l p) manyBit)) p → (r ≡ admitted l a p) × (q ≡ noticedPage l p)
+  unfolding admitted noticedPage
+  announced n e f = (rw n e, rw n f)

@@ -5,6 +5,10 @@ ghost use lib.Dec.{leb, eqb};
 ghost use lib.ListN.{length};
 ghost use Rattle.model.specs.Doorbell.{bitOf, manyBit, clearsBit};
 ghost use Rattle.doorbell.specs.Clear.{clearing};
+use crate::DESCRIPTOR_BYTES;
+use crate::KEPT_FLAGS;
+use crate::KEPT_MARKS;
+use crate::MANY;
 
 // Clears bits 0 to 10 and 14 (4.31).
 fn clear_request(d: &mut [u8])
@@ -13,7 +17,7 @@ fn clear_request(d: &mut [u8])
 {
     let flags = d[1];
     d[0] = 0;
-    d[1] = flags & 0xB8;
+    d[1] = flags & KEPT_FLAGS;
 }
 
 // Clears the marks of the vectors 31 to 255 (4.32).
@@ -21,9 +25,9 @@ fn clear_marks(d: &mut [u8])
     requires { ⌜ length (now d) ≡ 32 ⌝ }
     ensures { λ _. ⌜ now (d .exit) ≡ clearing (λ k. leb 31 k) (now (d .entry)) ⌝ }
 {
-    d[3] = d[3] & 0x7F;
+    d[3] = d[3] & KEPT_MARKS;
     let mut j = 4;
-    while j < 32 {
+    while j < DESCRIPTOR_BYTES {
         d[j] = 0;
         j += 1;
     }
@@ -34,7 +38,7 @@ pub fn clear_descriptor(d: &mut [u8])
     requires { ⌜ length (now d) ≡ 32 ⌝ }
     ensures { λ _. ⌜ now (d .exit) ≡ clearing (clearsBit (bitOf (now (d .entry)) manyBit)) (now (d .entry)) ⌝ }
 {
-    let many = d[1] & 0x40;
+    let many = d[1] & MANY;
     clear_request(d);
     if many != 0 {
         clear_marks(d);

@@ -1,23 +1,20 @@
 // The descriptor: what its 32 bytes admit.
 ghost use mathlib.Core.Path.{_≡_};
-ghost use mathlib.Core.Bool.{true, false};
+ghost use mathlib.Core.Bool.{true, false, _&&_};
 ghost use Prim.Native.Nat.{_+_, _*_, _≤_, _<_};
 ghost use lib.ListN.{length, getD};
 ghost use Rattle.vector_set.specs.Bits.{bits};
-ghost use Rattle.vector_set.specs.Sets.{collect, vectorOf};
-ghost use Rattle.model.specs.Doorbell.{bitOf, manyBit, partOf, admitsNmi, admitsLevel, admitsEdge, admits};
+ghost use Rattle.vector_set.specs.Sets.{has, collect, vectorOf};
+ghost use Rattle.model.specs.Doorbell.{bitOf, manyBit, isVector, partOf, admitsNmi, admitsLevel, admitsEdge, admits};
+use crate::LEVEL;
+use crate::MANY;
+use crate::NMI;
 use model::Admitted;
 use vector_set::Found;
+use vector_set::LOWEST;
 
-// Bits 8, 10 and 14 of the descriptor, as bits of its byte 1 (4.8, 4.10, 4.12, 4.13).
-const NMI: u8 = 0x01;
-
-const LEVEL: u8 = 0x04;
-
-const MANY: u8 = 0x40;
-
-// The lowest vector that a descriptor can name.
-const LOWEST: u8 = 31;
+// The vector by which the allowed set names the NMI (4.16).
+const NMI_VECTOR: u8 = 2;
 
 fn byte_at(d: &[u8], i: usize) -> u32
     requires { ⌜ i < length (now d) ⌝ }
@@ -58,10 +55,14 @@ fn nmi_of(d: &[u8], allowed: [u32; 8]) -> bool
     requires { ⌜ length (now d) ≡ 32 ⌝ }
     ensures { λ r. ⌜ r ≡ admitsNmi allowed (now (d .entry)) ⌝ }
 {
-    if d[1] & NMI == 0 {
-        return false;
-    }
-    vector_set::contains(allowed, 2)
+    d[1] & NMI != 0 && vector_set::contains(allowed, NMI_VECTOR)
+}
+
+// A vector that a notice may name, in the allowed set (4.13, 4.22, 4.23).
+fn may_name(allowed: [u32; 8], v: u8) -> bool
+    ensures { λ r. ⌜ r ≡ (isVector v && has allowed v) ⌝ }
+{
+    LOWEST <= v && vector_set::contains(allowed, v)
 }
 
 // The level-sensitive vector that is admitted, if one is (4.17).
@@ -69,17 +70,12 @@ fn level_of(d: &[u8], allowed: [u32; 8]) -> Found
     requires { ⌜ length (now d) ≡ 32 ⌝ }
     ensures { λ r. ⌜ vectorOf r ≡ admitsLevel allowed (now (d .entry)) ⌝ }
 {
-    let level = d[0];
-    if d[1] & LEVEL == 0 {
-        return Found::Nothing;
+    let vector = d[0];
+    if d[1] & LEVEL != 0 && may_name(allowed, vector) {
+        Found::Vector(vector)
+    } else {
+        Found::Nothing
     }
-    if level < LOWEST {
-        return Found::Nothing;
-    }
-    if vector_set::contains(allowed, level) {
-        return Found::Vector(level);
-    }
-    Found::Nothing
 }
 
 // The edge set where bit 14 is set: the marked vectors 31 to 255 other than the level-sensitive one (4.18).
@@ -87,7 +83,7 @@ fn many_edges(d: &[u8], allowed: [u32; 8], level: Found) -> [u32; 8]
     requires { ⌜ (length (now d) ≡ 32) × (vectorOf level ≡ admitsLevel allowed (now d)) × (bitOf (now d) manyBit ≡ true) ⌝ }
     ensures { λ r. ⌜ r ≡ collect (admitsEdge allowed (now (d .entry))) ⌝ }
 {
-    let marked = vector_set::from_31(vector_set::intersection(marks(d), allowed));
+    let marked = vector_set::from_lowest(vector_set::intersection(marks(d), allowed));
     match level {
         Found::Vector(v) => vector_set::remove(marked, v),
         Found::Nothing => marked,
@@ -99,18 +95,13 @@ fn one_edge(d: &[u8], allowed: [u32; 8]) -> [u32; 8]
     requires { ⌜ (length (now d) ≡ 32) × (bitOf (now d) manyBit ≡ false) ⌝ }
     ensures { λ r. ⌜ r ≡ collect (admitsEdge allowed (now (d .entry))) ⌝ }
 {
-    let edge = d[0];
+    let vector = d[0];
     let none = vector_set::no_vectors();
-    if d[1] & LEVEL != 0 {
-        return none;
+    if d[1] & LEVEL == 0 && may_name(allowed, vector) {
+        vector_set::insert(none, vector)
+    } else {
+        none
     }
-    if edge < LOWEST {
-        return none;
-    }
-    if vector_set::contains(allowed, edge) {
-        return vector_set::insert(none, edge);
-    }
-    none
 }
 
 // What the descriptor admits under the allowed set (4.14 to 4.24).

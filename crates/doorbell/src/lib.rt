@@ -1,23 +1,40 @@
 // The doorbell page: what a host notice admits, and the page after it.
 ghost use mathlib.Core.Path.{_≡_};
+ghost use Prim.Native.Nat.{_≤_};
+ghost use lib.ListN.{length};
 ghost use Rattle.vector_set.specs.Bits.{one};
 ghost use Rattle.vector_set.specs.Sets.{vectorOf};
-ghost use Rattle.model.specs.Doorbell.{partOf, noPart, isSome, items};
-ghost use Rattle.doorbell.specs.Served.{Taken};
+ghost use Rattle.model.specs.Doorbell.{partOf, noPart, isSome, items, admitted, noticedPage};
 use model::Admitted;
 use vector_set::Found;
 
 mod clear;
 mod descriptor;
 
-// The byte of the page with the announcing bits: bit L - 1 for VMPL L (4.5).
-const ANNOUNCEMENTS: usize = 3;
+// The bytes that a page has at least (4.2).
+pub const PAGE_BYTES: usize = 256;
 
-fn one_if(b: bool) -> u32
-    ensures { λ r. ⌜ r ≡ one b ⌝ }
-{
-    if b { 1 } else { 0 }
-}
+// The byte of the page with the announcing bits: bit L - 1 for VMPL L (4.5).
+pub const ANNOUNCEMENTS: usize = 3;
+
+// The bytes of a VMPL: those of VMPL L begin at byte 64 L, with the descriptor (4.7, 10.4).
+pub const VMPL_BYTES: usize = 64;
+
+// The bytes of a descriptor, and of a set.
+pub const DESCRIPTOR_BYTES: usize = 32;
+
+// Bits 8, 10 and 14 of a descriptor, as bits of its byte 1 (4.8, 4.10, 4.12, 4.13).
+pub const NMI: u8 = 0x01;
+
+pub const LEVEL: u8 = 0x04;
+
+pub const MANY: u8 = 0x40;
+
+// What a notice keeps of byte 1: all but bits 8 to 10 and 14 of the descriptor (4.31).
+pub const KEPT_FLAGS: u8 = 0xB8;
+
+// What a notice of many keeps of byte 3: all but bit 31, the mark of the lowest vector (4.32).
+pub const KEPT_MARKS: u8 = 0x7F;
 
 fn one_found(f: Found) -> u32
     ensures { λ r. ⌜ r ≡ one (isSome (vectorOf f)) ⌝ }
@@ -28,16 +45,16 @@ fn one_found(f: Found) -> u32
     }
 }
 
-// How many items the part has; the NMI is one of them (4.29).
+// How many items are admitted; the NMI is one of them (4.29).
 pub fn items_of(a: Admitted) -> u32
     ensures { λ r. ⌜ r ≡ items (partOf a) ⌝ }
 {
     let level = a.level;
     let edge = a.edge;
-    one_if(a.nmi) + one_found(level) + vector_set::count_of(edge)
+    a.nmi as u32 + one_found(level) + vector_set::count_of(edge)
 }
 
-// What a refused notice, or a page that announces nothing, admits (4.20).
+// What a refused notice admits, and a page that announces nothing (4.20).
 pub fn nothing() -> Admitted
     ensures { λ r. ⌜ partOf r ≡ noPart ⌝ }
 {
@@ -51,26 +68,18 @@ pub fn nothing() -> Admitted
 
 // Takes what the page of a notice admits (4.14 to 4.24), and clears it in the page (4.31 to 4.33).
 pub fn take_notice(page: &mut [u8], vmpl: u32, allowed: [u32; 8]) -> Admitted
-    ensures { λ r. ⌜ Taken vmpl allowed (now (page .entry)) (partOf r) (now (page .exit)) ⌝ }
+    requires { ⌜ (256 ≤ length (now page)) × (1 ≤ vmpl) × (vmpl ≤ 3) ⌝ }
+    ensures { λ r. ⌜ (partOf r ≡ admitted vmpl allowed (now (page .entry))) × (now (page .exit) ≡ noticedPage vmpl (now (page .entry))) ⌝ }
 {
-    if page.len() < 256 {
+    let announcements = page[ANNOUNCEMENTS];
+    let announced = 1u8 << (vmpl - 1);
+    if announcements & announced == 0 {
         return nothing();
     }
-    if vmpl < 1 {
-        return nothing();
-    }
-    if 3 < vmpl {
-        return nothing();
-    }
-    let info = page[ANNOUNCEMENTS];
-    let mark = 1u8 << (vmpl - 1);
-    if info & mark == 0 {
-        return nothing();
-    }
-    let a = 64 * vmpl as usize;
-    let e = a + 32;
-    let part = descriptor::read_descriptor(&page[a..e], allowed);
-    clear::clear_descriptor(&mut page[a..e]);
-    page[ANNOUNCEMENTS] = info & !mark;
+    let first = VMPL_BYTES * vmpl as usize;
+    let end = first + DESCRIPTOR_BYTES;
+    let part = descriptor::read_descriptor(&page[first..end], allowed);
+    clear::clear_descriptor(&mut page[first..end]);
+    page[ANNOUNCEMENTS] = announcements & !announced;
     part
 }

@@ -4,11 +4,11 @@ ghost use mathlib.Core.List.{[]};
 ghost use Rattle.model.specs.State.{size};
 ghost use Rattle.model.specs.Events.{Act, at, step, outOf};
 ghost use Rattle.vcpu.specs.Records.{sendBelow};
+use gate::served;
 use model::Module;
 use model::Outcome;
 use model::Refusal;
-use vcpu::ipis::send_vcpu;
-use vcpu::records::served;
+use vcpu::Reply;
 use vcpu_calls::call_vcpu;
 
 // The IPI of the vCPU caller with the ICR value: each record is reached or passed over. The bits of those reached (7.16 to 7.21).
@@ -16,14 +16,18 @@ fn send_in(m: &mut Module, caller: u32, value: u64) -> u64
     ensures { λ r. ⌜ record { mask = r; after = now (m .exit) } ≡ sendBelow caller value (now (m .entry)) (size (now (m .entry))) ⌝ }
 {
     let n = served(m.n, m.vmpl);
+    let targets = ipi::targets_of(value, caller);
+    let posting = ipi::posting_of(icr::item_of(value));
+    let w = posting.word;
     let mut mask: u64 = 0;
     let mut k: u32 = 0;
     while k < n {
         let j = k as usize;
-        let v = m.vcpus[j];
-        let sent = send_vcpu(v, caller, k, value, mask);
-        m.vcpus[j] = sent.vcpu;
-        mask = sent.mask;
+        if ipi::reaches(targets, k, m.vcpus[j].phase) {
+            m.vcpus[j].irr[w] = m.vcpus[j].irr[w] | posting.bits;
+            m.vcpus[j].nmi = m.vcpus[j].nmi | posting.nmi;
+            mask = mask | (1 << k);
+        }
         k = k + 1;
     }
     mask
@@ -42,8 +46,8 @@ pub fn call_in(m: &mut Module, vcpu: u32, call: u32, ecx: u32, rdx: u64) -> Outc
     let called = call_vcpu(v, vcpu, m.registrations, call, ecx, rdx);
     m.vcpus[i] = called.vcpu;
     m.registrations = called.registrations;
-    if called.sends {
-        return Outcome::Done(send_in(m, vcpu, rdx));
+    match called.reply {
+        Reply::Gives(outcome) => outcome,
+        Reply::Sends(value) => Outcome::Done(send_in(m, vcpu, value)),
     }
-    called.outcome
 }

@@ -2,11 +2,11 @@
 ghost use mathlib.Core.Path.{_≡_};
 ghost use mathlib.Core.List.{[]};
 ghost use Rattle.model.specs.Events.{Act, at, step, outOf, enteredOut};
+use gate::served;
 use model::Module;
 use model::Outcome;
 use model::Presentation;
 use model::Refusal;
-use vcpu::records::served;
 use vcpu_entries::entry_vcpu;
 use vcpu_entries::non_delivery_vcpu;
 

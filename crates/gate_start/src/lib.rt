@@ -35,16 +35,7 @@ fn bare(phase: Phase) -> Vcpu
 fn may_start(n: u32, vmpl: u32) -> bool
     ensures { λ r. ⌜ r ≡ mayStart n vmpl ⌝ }
 {
-    if n < 1 {
-        return false;
-    }
-    if 32 < n {
-        return false;
-    }
-    if vmpl < 1 {
-        return false;
-    }
-    vmpl <= 3
+    1 <= n && n <= 32 && 1 <= vmpl && vmpl <= 3
 }
 
 // n fresh records, and records of nothing behind them (3.3, 2.13).

@@ -1,121 +1,96 @@
 // The ICR: which values may be written, what they send and to whom.
 ghost use mathlib.Core.Path.{_≡_};
-ghost use Rattle.model.specs.Doorbell.{isVector};
-ghost use Rattle.model.specs.Ipi.{icrFixedBits, icrIsFixed, icrIsNmi, icrLegal, icrItem, icrTarget, hits};
+ghost use Rattle.model.specs.Ipi.{icrType, icrShorthand, icrFixedBits, icrIsFixed, icrIsNmi, icrLegal, icrItem, icrTarget};
 use model::Item;
 use model::Target;
 
-// A vector that may be sent or admitted: 31 to 255 (4.13, 7.9).
-pub fn is_vector(v: u64) -> bool
-    ensures { λ r. ⌜ r ≡ isVector v ⌝ }
+// The types (7.3).
+const FIXED: u64 = 0;
+
+const NMI: u64 = 4;
+
+// The shorthands but 0, which is none (7.6).
+const SELF: u64 = 1;
+
+const ALL: u64 = 2;
+
+const OTHERS: u64 = 3;
+
+// The destination that is every vCPU (7.15).
+const BROADCAST: u64 = 0xFFFF_FFFF;
+
+fn type_of(value: u64) -> u64
+    ensures { λ r. ⌜ r ≡ icrType value ⌝ }
 {
-    if v < 31 {
-        return false;
-    }
-    v <= 255
+    (value >> 8) % 8
+}
+
+fn shorthand_of(value: u64) -> u64
+    ensures { λ r. ⌜ r ≡ icrShorthand value ⌝ }
+{
+    (value >> 18) % 4
 }
 
 // The bits that have one value only (7.5, 7.8).
-fn has_fixed_bits(x: u64) -> bool
-    ensures { λ r. ⌜ r ≡ icrFixedBits x ⌝ }
+fn has_fixed_bits(value: u64) -> bool
+    ensures { λ r. ⌜ r ≡ icrFixedBits value ⌝ }
 {
-    if (x >> 14) % 2 != 1 {
-        return false;
-    }
-    if (x >> 15) % 2 == 1 {
-        return false;
-    }
-    if (x >> 12) % 4 != 0 {
-        return false;
-    }
-    if (x >> 16) % 4 != 0 {
-        return false;
-    }
-    (x >> 20) % 4096 == 0
+    (value >> 14) % 2 == 1
+        && (value >> 15) % 2 != 1
+        && (value >> 12) % 4 == 0
+        && (value >> 16) % 4 == 0
+        && (value >> 20) % 4096 == 0
 }
 
 // Type Fixed, with a vector that may be sent (7.3, 7.9).
-fn is_fixed(x: u64) -> bool
-    ensures { λ r. ⌜ r ≡ icrIsFixed x ⌝ }
+fn is_fixed(value: u64) -> bool
+    ensures { λ r. ⌜ r ≡ icrIsFixed value ⌝ }
 {
-    if (x >> 8) % 8 != 0 {
-        return false;
-    }
-    is_vector(x % 256)
+    type_of(value) == FIXED && vector_set::is_vector(value % 256)
 }
 
 // Type NMI, with neither shorthand that would send it to the caller (7.3, 7.10).
-fn is_nmi(x: u64) -> bool
-    ensures { λ r. ⌜ r ≡ icrIsNmi x ⌝ }
+fn is_nmi(value: u64) -> bool
+    ensures { λ r. ⌜ r ≡ icrIsNmi value ⌝ }
 {
-    if (x >> 8) % 8 != 4 {
-        return false;
-    }
-    let shorthand = (x >> 18) % 4;
-    if shorthand == 1 {
-        return false;
-    }
-    shorthand != 2
+    let shorthand = shorthand_of(value);
+    type_of(value) == NMI && shorthand != SELF && shorthand != ALL
 }
 
 // The ICR takes the value (7.11).
-pub fn is_legal(x: u64) -> bool
-    ensures { λ r. ⌜ r ≡ icrLegal x ⌝ }
+pub fn is_legal(value: u64) -> bool
+    ensures { λ r. ⌜ r ≡ icrLegal value ⌝ }
 {
-    if !has_fixed_bits(x) {
-        return false;
-    }
-    if is_fixed(x) {
-        return true;
-    }
-    is_nmi(x)
+    has_fixed_bits(value) && (is_fixed(value) || is_nmi(value))
 }
 
 // What a legal value sends (7.2, 7.3).
-pub fn item_of(x: u64) -> Item
-    ensures { λ r. ⌜ r ≡ icrItem x ⌝ }
+pub fn item_of(value: u64) -> Item
+    ensures { λ r. ⌜ r ≡ icrItem value ⌝ }
 {
-    if (x >> 8) % 8 == 4 {
+    if type_of(value) == NMI {
         return Item::Nmi;
     }
-    Item::Vector((x % 256) as u8)
+    Item::Vector((value % 256) as u8)
 }
 
 // A shorthand comes before the destination (7.4, 7.6, 7.7, 7.12, 7.15).
-pub fn target_of(x: u64) -> Target
-    ensures { λ r. ⌜ r ≡ icrTarget x ⌝ }
+pub fn target_of(value: u64) -> Target
+    ensures { λ r. ⌜ r ≡ icrTarget value ⌝ }
 {
-    match (x >> 18) % 4 {
-        1 => Target::Caller,
-        2 => Target::All,
-        3 => Target::Others,
+    match shorthand_of(value) {
+        SELF => Target::Caller,
+        ALL => Target::All,
+        OTHERS => Target::Others,
         _ => {
-            let destination = x >> 32;
-            if destination == 0xFFFF_FFFF {
+            let destination = value >> 32;
+            if destination == BROADCAST {
                 return Target::All;
             }
-            if (x >> 11) % 2 == 1 {
+            if (value >> 11) % 2 == 1 {
                 return Target::Logical(destination as u32);
             }
             Target::Physical(destination as u32)
-        }
-    }
-}
-
-// The vCPU k is a target of an IPI that the vCPU caller sends (7.6, 7.13 to 7.15).
-pub fn is_target(t: Target, caller: u32, k: u32) -> bool
-    ensures { λ r. ⌜ r ≡ hits t caller k ⌝ }
-{
-    match t {
-        Target::Caller => k == caller,
-        Target::All => true,
-        Target::Others => k != caller,
-        Target::Physical(d) => k == d,
-        Target::Logical(d) => {
-            if d / 65536 != k / 16 {
-                return false;
-            }
-            (d >> (k % 16)) % 2 == 1
         }
     }
 }

@@ -31,7 +31,8 @@ same-verdict m i p q l = rw l
 -- by the verdict, which is the same, and behind acceptance by the parts
 same-notice : (g : Verdict) (m : Module) (i : ℕ) (p q : Bytes)
     → (g ≡ accept → admitted (m .vmpl) (vcpuAt m i .allowed) p ≡ admitted (m .vmpl) (vcpuAt m i .allowed) q)
-    → (decided g m (at i (notice p)) .result ≡ decided g m (at i (notice q)) .result) × (decided g m (at i (notice p)) .after ≡ decided g m (at i (notice q)) .after)
+    → (decided g m (at i (notice p)) .result ≡ decided g m (at i (notice q)) .result)
+    × (decided g m (at i (notice p)) .after ≡ decided g m (at i (notice q)) .after)
 unfolding concluded effect
 same-notice (refuse c) m i p q h = (refl, refl)
 same-notice accept m i p q h =

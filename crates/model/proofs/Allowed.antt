@@ -1,7 +1,7 @@
 -- What a notice admits is in the set that it was judged by, and is the NMI or a vector 31 to 255.
 -- Assumes nothing.
 use mathlib.Core.Path.{_≡_, refl, _∙_}
-use mathlib.Core.Bool.{Bool, true, false, cond, _&&_, _||_}
+use mathlib.Core.Bool.{Bool, true, false, cond, _&&_, _||_, or-false, and-eq-true-iff}
 use mathlib.Core.List.{List}
 use mathlib.Core.Option.{Option, none, some}
 use Prim.Native.Nat.{ℕ, _≤_}
@@ -11,21 +11,13 @@ use Rattle.model.specs.declared.Item.{Item}
 use Rattle.model.specs.declared.Item.the-variants as item
 use Rattle.model.specs.State.{isActive}
 use Rattle.model.specs.Items.{InRange, memberOf}
-use Rattle.model.specs.Doorbell.{longEnough, bitOf, announces, descriptor, vectorField, nmiBit, levelBit, isVector, inPart, noPart, isLevel, admitsNmi, admitsLevel, admitsEdge, admits, admitted}
+use Rattle.model.specs.Doorbell.{longEnough, bitOf, announces, descriptor, vectorField, nmiBit, levelBit, isVector}
+use Rattle.model.specs.Doorbell.{inPart, noPart, isLevel, admitsNmi, admitsLevel, admitsEdge, admits, admitted}
 use Rattle.model.specs.Events.{Bytes, Event}
 use Rattle.model.specs.Book.{Book, recordAt, noticePage, partOn, partBy}
 use Rattle.model.specs.Demand3.{IsVector}
 use Rattle.vector_set.specs.Sets.{has, empty}
 use Rattle.vector_set.proofs.Laws.{clash, has-collect, has-empty}
-use Rattle.model.proofs.Tests.{or-false}
-
-pub and-right : (a b : Bool) → (a && b) ≡ true → b ≡ true
-and-right true b h = h
-and-right false b h = clash (cc)
-
-pub and-left : (a b : Bool) → (a && b) ≡ true → a ≡ true
-and-left true b h = refl
-and-left false b h = clash (cc)
 
 -- nothing is in the empty part
 pub none-in : (x : Item) → InRange x → inPart x noPart ≡ false
@@ -37,7 +29,7 @@ none-admitted : {A : Type 0} (x : Item) → InRange x → inPart x noPart ≡ tr
 none-admitted x r h = let z = none-in x r in clash (cc)
 
 pub is-vector : (x : ℕ) → isVector x ≡ true → 31 ≤ x
-is-vector x e = leb-true 31 x (and-left (leb 31 x) (leb x 255) e)
+is-vector x e = leb-true 31 x (and-eq-true-iff (leb 31 x) (leb x 255) .0 e .0)
 
 -- what an admitted item x shows under the set a
 abbrev pub Fits : List ℕ → Item → Type 0
@@ -57,12 +49,12 @@ level-fits a d v = pick (bitOf d levelBit) (isVector (vectorField d)) (has a (ve
 edge-fits : (a d : List ℕ) (v : ℕ) → admitsEdge a d v ≡ true → Fits a (item.Vector v)
 unfolding admitsEdge
 edge-fits a d v h =
-    let g : (isVector v && has a v) ≡ true = and-left (isVector v && has a v) _ h in
-    (and-right (isVector v) (has a v) g, is-vector v (and-left (isVector v) (has a v) g))
+    let g = and-eq-true-iff (isVector v) (has a v) .0 (and-eq-true-iff (isVector v && has a v) _ .0 h .0) in
+    (g .1, is-vector v (g .0))
 
 admits-fits : (a d : List ℕ) (x : Item) → InRange x → inPart x (admits a d) ≡ true → Fits a x
 unfolding admits admitsNmi
-admits-fits a d item.Nmi r h = (and-right (bitOf d nmiBit) (has a 2) h, tt)
+admits-fits a d item.Nmi r h = (and-eq-true-iff (bitOf d nmiBit) (has a 2) .0 h .1, tt)
 admits-fits a d (item.Vector v) r h = pick (admitsEdge a d v) (isLevel (admitsLevel a d) v) refl refl (rw (has-collect (admitsEdge a d) v r) at h)
   where
     pick : (b c : Bool) → admitsEdge a d v ≡ b → isLevel (admitsLevel a d) v ≡ c → (b || c) ≡ true → Fits a (item.Vector v)

@@ -1,10 +1,9 @@
 -- The book of a module, at a record and after each change of one.
 -- Assumes nothing.
 use mathlib.Core.Path.{_≡_, refl}
-use mathlib.Core.Bool.{Bool, true, false, cond}
 use mathlib.Core.List.{List, [], _∷_, map}
 use mathlib.Core.Option.{Option, none, some}
-use Prim.Native.Nat.{ℕ, zero, suc, _-_}
+use Prim.Native.Nat.{ℕ, zero, suc}
 use lib.ListN.{set, List·getD-map}
 use lib.Seq.{map-set-same}
 use Rattle.model.specs.declared.InFlight.{InFlight}
@@ -17,9 +16,10 @@ use Rattle.model.specs.State.{absent, size, vcpuAt, withVcpu, withRegist
 use Rattle.model.specs.Codes.{Answer, nothing, presents, window}
 use Rattle.model.specs.Items.{mark, unmark, markAll}
 use Rattle.model.specs.Doorbell.{Part}
-use Rattle.model.specs.Ipi.{reached, reach, mapFrom, sent}
+use Rattle.model.specs.Ipi.{reach, mapFrom, sent}
 use Rattle.model.specs.Events.{noticed, present, entered, giveBack, undelivered}
 use Rattle.model.specs.Book.{recordOf, bookOf, recordAt, withRecord, withCount}
+use Rattle.model.proofs.Stored.{by-reach}
 
 -- ---- the book of a module, at a record and after a change
 pub record-book : (m : Module) (i : ℕ) → recordAt (bookOf m) i ≡ recordOf (vcpuAt m i)
@@ -54,12 +54,7 @@ record-mark item.Nmi v = refl
 record-mark (item.Vector x) v = refl
 
 record-reach : (y : Item) (t : Target) (i n k : ℕ) (v : Vcpu) → recordOf (reach y t i n k v) ≡ recordOf v
-unfolding reach
-record-reach y t i n k v = pick (reached t i n k (v .phase))
-  where
-    pick : (b : Bool) → recordOf (cond b (mark y v) v) ≡ recordOf v
-    pick true = record-mark y v
-    pick false = refl
+record-reach y t i n k v = by-reach y t i n k v (λ u. recordOf u ≡ recordOf v) (record-mark y v) refl
 
 map-mapFrom : (f : ℕ → Vcpu → Vcpu) → ((k : ℕ) (v : Vcpu) → recordOf (f k v) ≡ recordOf v)
     → (k : ℕ) (l : List Vcpu) → map recordOf (mapFrom f k l) ≡ map recordOf l

@@ -1,10 +1,10 @@
 -- Why no item is presented more often than it was pending at first, admitted, sent and returned: an item that is pending has not been presented yet.
 -- Assumes nothing.
 use mathlib.Core.Path.{_≡_, refl}
-use mathlib.Core.Bool.{Bool, false, cond, _&&_}
+use mathlib.Core.Bool.{Bool, false, cond, _&&_, and-true, and-false}
 use mathlib.Core.List.{List, [], _∷_}
 use mathlib.Core.Option.{Option, none, some}
-use Prim.Native.Nat.{ℕ, _+_, _-_, _≤_}
+use Prim.Native.Nat.{ℕ, _+_, _≤_}
 use native.Mathlib.Omega.{arith}
 use lib.Dec.{ltb, eqb}
 use Rattle.model.specs.declared.InFlight.the-variants as flight
@@ -16,24 +16,25 @@ use Rattle.model.specs.declared.Request.{Request}
 use Rattle.model.specs.declared.Request.the-variants as request
 use Rattle.model.specs.declared.Vcpu.{Vcpu}
 use Rattle.model.specs.declared.Module.{Module}
-use Rattle.model.specs.State.{isActive, size, vcpuAt, withVcpu, withIcr}
+use Rattle.model.specs.State.{isActive, size, vcpuAt, withVcpu}
 use Rattle.model.specs.Codes.{codeOf, accept, refuse, Answer, nothing, presents, window, Result, refused, accepted, presentedIn}
 use Rattle.model.specs.Items.{InRange, sameItem, isItem, itemInFlight, pending, unmarkAll}
 use Rattle.model.specs.Doorbell.{Part, inPart, admitted}
 use Rattle.model.specs.Ipi.{icrItem, icrTarget, hits, reach, sent}
 use Rattle.model.specs.Requests.{requestOf, forget, serve}
-use Rattle.model.specs.Events.{Act, notice, call, entry, nonDelivery, handBack, at, Bytes, Event, noticed, offer, entered, undelivered, emptied, verdict, callEffect, effect, concluded, step, next, run}
+use Rattle.model.specs.Events.{Act, notice, call, entry, nonDelivery, handBack, at, Bytes, Event, noticed, offer, entered}
+use Rattle.model.specs.Events.{undelivered, emptied, verdict, callEffect, effect, concluded, step, next, run}
 use Rattle.model.specs.Book.{Book, bookOf, partOn, partBy}
 use Rattle.model.specs.Lists.{results}
 use Rattle.model.specs.Ledger.{Ledger, Quiet, addAdmitted, addSent, addPresented, addReturned, withLatest, writeSends, postAct, ledger, opened, ledgerOf}
 use Rattle.vector_set.specs.Bits.{one}
-use Rattle.model.proofs.Tests.{and-true, and-false}
 use Rattle.model.proofs.Stored.{on-put, vcpuAt-count, size-put, count-same, vcpuAt-sent, by-verdict, Known, known-of}
 use Rattle.model.proofs.BookLaws.{record-book}
 use Rattle.model.proofs.Follow.{part-accepted, part-refused, follow}
 use Rattle.model.proofs.Stays.{vmpl-next}
 use Rattle.model.proofs.Allowed.{none-in}
-use Rattle.model.proofs.Pending.{pending-present, pending-giveBack, pending-emptied, gives, Like, like-noticed, like-serve, like-reach, Offered, offer-pending, Follows, flying-flight, tally-is, or-le, take-is}
+use Rattle.model.proofs.Pending.{pending-present, pending-giveBack, pending-emptied, gives, Like, like-noticed, like-serve}
+use Rattle.model.proofs.Pending.{like-reach, Offered, offer-pending, Follows, flying-flight, tally-is, or-le, take-is}
 use Rattle.model.proofs.Sends.{request-le, sendsBy}
 
 -- ---- nothing is posted for a refused event or a read
@@ -144,8 +145,7 @@ module _ (j : ℕ) (x : Item) (r : InRange x) (c : ℕ) where
         → Covers (vcpuAt (concluded (callEffect q i (m .registrations) (vcpuAt m i)) i m .after) j) (addSent (sendsBy j x (bookOf m) i q) g)
     unfolding concluded callEffect bookOf hits
     cover-call (request.Local o) i k = rw (vcpuAt-count, record-book m j) (cover-local o i k)
-    cover-call (request.Icr y) i k =
-        rw (record-book m j, count-same) (cover-ipi (icrItem y) (icrTarget y) i (withIcr y (forget (vcpuAt m i))) k refl refl refl)
+    cover-call (request.Icr y) i k = rw (record-book m j, count-same) (cover-ipi (icrItem y) (icrTarget y) i _ k refl refl refl)
     cover-call (request.Refused d) i k = rw (count-same) (on-put m i (vcpuAt m i) j (k .there) (λ _ _ u v. Covers u g → Covers v g) (λ q. q) (λ q. q) h)
 
     cover-posted : (q : Request) (i op d y : ℕ) → Known m i isActive → one (sendsBy j x (bookOf m) i q) ≤ one (eqb op 3 && writeSends j x (bookOf m) i d y)
@@ -168,7 +168,8 @@ module _ (j : ℕ) (x : Item) (r : InRange x) (c : ℕ) where
     unfolding concluded effect postAct
     cover-at i (notice p) e =
         rw (vcpuAt-count, part-accepted m i p e)
-        (on-put m i (noticed (part p i) (vcpuAt m i)) j (known-of m i (notice p) e .there) (λ _ b u v. Covers u g → Covers v (addAdmitted (inPart x (part p i) && b) g))
+        (on-put m i (noticed (part p i) (vcpuAt m i)) j (known-of m i (notice p) e .there)
+        (λ _ b u v. Covers u g → Covers v (addAdmitted (inPart x (part p i) && b) g))
         (λ q. rw (and-true (inPart x (part p i))) (cover-admitted (inPart x (part p i)) (vcpuAt m i) _ g (like-noticed x r (part p i) (vcpuAt m i)) q))
         (λ q. rw (and-false (inPart x (part p i))) q) h)
       where
@@ -176,13 +177,12 @@ module _ (j : ℕ) (x : Item) (r : InRange x) (c : ℕ) where
         part p i = admitted (m .vmpl) (vcpuAt m i .allowed) p
     cover-at i (call op d y) e = cover-posted (requestOf op d y) i op d y (known-of m i (call op d y) e) (request-le j x (bookOf m) i op d y)
     cover-at i (entry iF sh bl) e =
+        let o = offer iF sh bl (vcpuAt m i) in
         rw (vcpuAt-count)
-        (on-put m i (entered (offer iF sh bl (vcpuAt m i)) (forget (vcpuAt m i))) j (known-of m i (entry iF sh bl) e .there)
-        (λ _ b u v. Covers u g
-        → Covers v (withLatest (cond b (presentedIn (offer iF sh bl (vcpuAt m i))) (g .latest)) (addPresented (isItem x (presentedIn (offer iF sh bl (vcpuAt m i))) && b) g)))
-        (λ q. rw (and-true (isItem x (presentedIn (offer iF sh bl (vcpuAt m i)))))
-        (cover-entered (offer iF sh bl (vcpuAt m i)) (vcpuAt m i) g (offer-pending iF sh bl (vcpuAt m i)) q))
-        (λ q. rw (and-false (isItem x (presentedIn (offer iF sh bl (vcpuAt m i))))) q) h)
+        (on-put m i (entered o (forget (vcpuAt m i))) j (known-of m i (entry iF sh bl) e .there)
+        (λ _ b u v. Covers u g → Covers v (withLatest (cond b (presentedIn o) (g .latest)) (addPresented (isItem x (presentedIn o) && b) g)))
+        (λ q. rw (and-true (isItem x (presentedIn o))) (cover-entered o (vcpuAt m i) g (offer-pending iF sh bl (vcpuAt m i)) q))
+        (λ q. rw (and-false (isItem x (presentedIn o))) q) h)
     cover-at i nonDelivery e =
         rw (vcpuAt-count)
         (on-put m i (undelivered (itemInFlight (vcpuAt m i .flight)) (vcpuAt m i)) j (known-of m i nonDelivery e .there)

@@ -1,13 +1,13 @@
--- Laws of bytes by their bits: the bytes that `bytesFrom`, `mapBits` and `written` make.
+-- Laws of bytes by their bits, and of a part of them replaced: the bytes that `bytesFrom`, `mapBits` and `written` make.
 -- Assumes nothing.
 use mathlib.Core.Path.{_≡_, refl, sym, ap, _∙_}
 use mathlib.Core.Bool.{Bool}
-use mathlib.Core.List.{List, _++_}
-use Prim.Native.Nat.{ℕ, zero, suc, _+_, _*_, _/_, _%_, _<_, _≤_}
+use mathlib.Core.List.{List, _++_, append-assoc}
+use Prim.Native.Nat.{ℕ, zero, suc, _+_, _*_, _-_, _/_, _%_, _<_, _≤_}
 use native.Mathlib.Omega.{arith}
 use native.Mathlib.Nat.{not-suc-le-zero, le-of-suc-le-suc}
 use lib.ListN.{length, getD, take, drop, length-append, length-drop, List·getD-append}
-use lib.Seq.{getD-append-add, length-take-le}
+use lib.Seq.{getD-append-add, getD-drop, getD-take, length-take-le, drop-drop}
 use Rattle.vector_set.specs.Bits.{bitAt, bits}
 use Rattle.vector_set.proofs.BitLaws.{bits-bit}
 use Rattle.model.specs.Doorbell.{bitOf, bytesFrom, mapBits, written}
@@ -49,19 +49,39 @@ pub mapBits-bit : (f : ℕ → Bool → Bool) (p : List ℕ) (k : ℕ) → k < 8
 unfolding mapBits
 mapBits-bit f p k h = bytesFrom-bit (λ k. f k (bitOf p k)) (length p) k h
 
--- ---- the bytes that a hand-back writes
-module _ (l : ℕ) (bytes p : List ℕ) (room : 64 * l + 64 ≤ length p) (long : length bytes ≡ 64) where
-  before : length (take (64 * l) p) ≡ 64 * l
-  before = length-take-le (64 * l) p (omega arith)
+-- ---- a part in the middle, replaced by another that is as long
+abbrev pub spliced : List ℕ → ℕ → ℕ → List ℕ → List ℕ
+spliced xs a k ys = take a xs ++ (ys ++ drop k (drop a xs))
 
-  pub written-length : length (written l bytes p) ≡ length p
-  unfolding written
-  written-length = simp (length-append, length-drop, before, long) (omega arith)
+module _ (xs : List ℕ) (a k : ℕ) (ys : List ℕ) (inside : a + k ≤ length xs) (long : length ys ≡ k) where
+  before : length (take a xs) ≡ a
+  before = length-take-le a xs (omega arith)
 
-  pub written-at : (j : ℕ) → j < 64 → getD (written l bytes p) (64 * l + j) 0 ≡ getD bytes j 0
-  unfolding written
-  written-at j h =
-      let b = take (64 * l) p in
-      List·getD-append (b ++ bytes) (drop (64 * l + 64) p) 0 (64 * l + j) (simp (length-append, before, long) (omega arith))
-      ∙ ap (λ (n : ℕ). getD (b ++ bytes) (n + j) 0) (sym before)
-      ∙ getD-append-add b bytes j 0
+  pub spliced-length : length (spliced xs a k ys) ≡ length xs
+  spliced-length = simp (length-append, length-drop, before, long) (omega arith)
+
+  pub spliced-before : (j : ℕ) → j < a → getD (spliced xs a k ys) j 0 ≡ getD xs j 0
+  spliced-before j h = List·getD-append (take a xs) (ys ++ drop k (drop a xs)) 0 j (omega (arith, before)) ∙ getD-take a xs j 0 h
+
+  past : (i : ℕ) → getD (spliced xs a k ys) (a + i) 0 ≡ getD (ys ++ drop k (drop a xs)) i 0
+  past i =
+      ap (λ (n : ℕ). getD (spliced xs a k ys) (n + i) 0) (sym before) ∙ getD-append-add (take a xs) (ys ++ drop k (drop a xs)) i 0
+
+  pub spliced-in : (i : ℕ) → i < k → getD (spliced xs a k ys) (a + i) 0 ≡ getD ys i 0
+  spliced-in i h = past i ∙ List·getD-append ys (drop k (drop a xs)) 0 i (omega arith)
+
+  pub spliced-after : (j : ℕ) → a + k ≤ j → getD (spliced xs a k ys) j 0 ≡ getD xs j 0
+  spliced-after j h =
+      let e : j ≡ a + (k + (j - (a + k))) = omega arith in
+      ap (λ (n : ℕ). getD (spliced xs a k ys) n 0) e
+      ∙ past (k + (j - (a + k)))
+      ∙ ap (λ (n : ℕ). getD (ys ++ drop k (drop a xs)) (n + (j - (a + k))) 0) (sym long)
+      ∙ getD-append-add ys (drop k (drop a xs)) (j - (a + k)) 0
+      ∙ getD-drop k (drop a xs) (j - (a + k)) 0
+      ∙ getD-drop a xs (k + (j - (a + k))) 0
+      ∙ ap (λ (n : ℕ). getD xs n 0) (sym e)
+
+-- a hand-back writes such a part
+pub written-is : (l : ℕ) (bytes p : List ℕ) → written l bytes p ≡ spliced p (64 * l) 64 bytes
+unfolding written
+written-is l bytes p = rw (drop-drop 64 (64 * l) p) (append-assoc (take (64 * l) p) bytes (drop (64 * l + 64) p))

@@ -1,7 +1,7 @@
 -- Demand 1, proved.
 -- Assumes nothing.
 use mathlib.Core.Path.{_≡_, refl, sym, ap, _∙_}
-use mathlib.Core.Bool.{Bool, true, false, cond, not, _&&_}
+use mathlib.Core.Bool.{Bool, true, false, cond, not, _&&_, or-false, and-false}
 use mathlib.Core.List.{[], _∷_}
 use mathlib.Core.Option.{Option, none, some}
 use Prim.Native.Nat.{ℕ, zero, suc, _%_, _≤_, _<_}
@@ -12,7 +12,8 @@ use borrow.Author.Tests.{leb-false, eqb-true, lt-ltb, le-ltb, lt-leb, ne-eqb}
 use Rattle.model.specs.declared.Kind.{Kind}
 use Rattle.model.specs.declared.Kind.the-variants as kind
 use Rattle.model.specs.declared.Refusal.{Refusal}
-use Rattle.model.specs.declared.Refusal.the-variants.{UnknownVcpu, ShortPage, NotLeaving, NothingInFlight, NotActive, BadParameter, RegistrationsFull, NotRegistered}
+use Rattle.model.specs.declared.Refusal.the-variants.{UnknownVcpu, ShortPage, NotLeaving, NothingInFlight, NotActive}
+use Rattle.model.specs.declared.Refusal.the-variants.{BadParameter, RegistrationsFull, NotRegistered}
 use Rattle.model.specs.declared.Local.the-variants as local
 use Rattle.model.specs.declared.Request.{Request}
 use Rattle.model.specs.declared.Request.the-variants as request
@@ -20,17 +21,18 @@ use Rattle.model.specs.declared.Vcpu.{Vcpu}
 use Rattle.model.specs.declared.Module.{Module}
 use Rattle.model.specs.State.{isActive, isLeaving, isInFlight, size, vcpuAt, mayStart, started, stopped, start}
 use Rattle.model.specs.Codes.{codeOf, Verdict, accept, refuse, need, Result, done, answers, refused, accepted, refusalOf}
-use Rattle.model.specs.Doorbell.{isVector}
 use Rattle.model.specs.Registers.{within, isRead, isWrite, isBoth, kindOf}
 use Rattle.model.specs.Ipi.{icrLegal}
-use Rattle.model.specs.Requests.{registration, readBy, writeBy, writeValue, nameable, permission, requestOf, forget, serve, callVerdict}
-use Rattle.model.specs.Events.{Act, notice, call, entry, nonDelivery, handBack, at, Bytes, Event, pageOf, vcpuVerdict, verdict, callEffect, effect, effectOf, concluded, Out, step, next, startResult, doStart}
+use Rattle.model.specs.Requests.{bad, registration, readBy, writeBy, writeValue, nameable, permission, requestOf, forget, serve, callVerdict}
+use Rattle.model.specs.Events.{Act, notice, call, entry, nonDelivery, handBack, at, Bytes, Event, pageOf, vcpuVerdict, verdict}
+use Rattle.model.specs.Events.{callEffect, effect, effectOf, concluded, Out, step, next, startResult, doStart}
 use Rattle.model.specs.Causes.{cause, firstCause, inTable, badValue, badEcx, isKindNone, isKindRead, isKindWrite, callCauses, causes, startCauses}
 use Rattle.model.specs.Demand1.{Demand1}
 use Rattle.vector_set.specs.Bits.{bitAt}
 use Rattle.vector_set.proofs.Laws.{clash}
-use Rattle.model.proofs.Tests.{or-false, eqb-above, ltb-leb, zero-leb}
-use Rattle.model.proofs.Stored.{by-verdict}
+use Rattle.vector_set.specs.Sets.{isVector}
+use Rattle.model.proofs.Tests.{eqb-above, ltb-leb, zero-leb}
+use Rattle.model.proofs.Stored.{needed, by-verdict}
 
 -- ---- the code of a verdict
 abbrev refusalIn : Verdict → Option ℕ
@@ -61,16 +63,9 @@ module _ (j : ℕ) (u : Vcpu) where
   unfolding inTable
   outside c a b h la lb = pick (leb 0x800 c) (leb c 0x8FF) refl refl h
     where
-      low : (t : Bool) → leb a c ≡ false → (leb a c && t) ≡ false
-      low t e = rw e
-
-      high : (t : Bool) → leb c b ≡ false → (t && leb c b) ≡ false
-      high true e = e
-      high false e = refl
-
       pick : (s t : Bool) → leb 0x800 c ≡ s → leb c 0x8FF ≡ t → (s && t) ≡ false → within a b c ≡ false
-      pick false t p q r = low (leb c b) (let z = leb-false 0x800 c p in lt-leb a c (omega arith))
-      pick true false p q r = high (leb a c) (let z = leb-false c 0x8FF q in lt-leb c b (omega arith))
+      pick false t p q r = let z = leb-false 0x800 c p in rw (lt-leb a c (omega arith))
+      pick true false p q r = let z = leb-false c 0x8FF q in rw (lt-leb c b (omega arith)) (and-false (leb a c))
       pick true true p q r = clash (cc)
 
   outside-is : (c a : ℕ) → inTable c ≡ false → inTable a ≡ true → eqb c a ≡ false
@@ -149,7 +144,7 @@ module _ (j : ℕ) (u : Vcpu) where
   call-4 k c x = pick (nameable c) (bitAt c 8)
     where
       pick : (t b : Bool)
-          → refusalIn (may k (cond t (cond b (request.Local (local.Allow (c % 256))) (request.Local (local.Disallow (c % 256)))) (request.Refused BadParameter)))
+          → refusalIn (may k (cond t (cond b (request.Local (local.Allow (c % 256))) (request.Local (local.Disallow (c % 256)))) bad))
           ≡ firstCause (cause 0x80000005 (not t) ∷ [])
       pick true true = refl
       pick true false = refl
@@ -164,7 +159,8 @@ module _ (j : ℕ) (u : Vcpu) where
   numbers k (suc (suc (suc (suc zero)))) c x = call-4 k c x
   numbers k (suc (suc (suc (suc (suc op))))) c x =
       let d = suc (suc (suc (suc (suc op)))) in
-      rw (eqb-above d 0 (omega arith), eqb-above d 1 (omega arith), eqb-above d 2 (omega arith), eqb-above d 3 (omega arith), eqb-above d 4 (omega arith), lt-ltb 4 d (omega arith))
+      let at = eqb-above d in
+      rw (at 0 (omega arith), at 1 (omega arith), at 2 (omega arith), at 3 (omega arith), at 4 (omega arith), lt-ltb 4 d (omega arith))
 
 -- ---- the verdict has the code of the first cause
 verdict-causes : (m : Module) (i : ℕ) (a : Act Bytes) → refusalIn (verdict m (at i a)) ≡ firstCause (causes m (at i a))
@@ -184,11 +180,6 @@ verdict-causes m i (handBack p iF sh) =
     (needs (ltb i (size m)) UnknownVcpu _ _ (needs (isLeaving (vcpuAt m i .phase)) NotLeaving _ _ (needs (leb 256 (length p)) ShortPage accept none refl)))
 
 -- ---- an accepted event refuses nothing
-may-call : (a b : Bool) (g : Verdict) → need a UnknownVcpu (need b NotActive g) ≡ accept → g ≡ accept
-may-call true true g e = e
-may-call true false g e = clash (cc)
-may-call false b g e = clash (cc)
-
 call-answers : (r : Request) (m : Module) (i : ℕ) → callVerdict r i (m .registrations) (forget (vcpuAt m i)) ≡ accept
     → refusalOf (concluded (callEffect r i (m .registrations) (vcpuAt m i)) i m .result) ≡ none
 unfolding callVerdict callEffect concluded
@@ -199,7 +190,8 @@ call-answers (request.Refused c) m i e = clash (cc)
 pub answered : (m : Module) (i : ℕ) (a : Act Bytes) → verdict m (at i a) ≡ accept → refusalOf (concluded (effectOf m (at i a)) i m .result) ≡ none
 unfolding effect concluded verdict vcpuVerdict
 answered m i (notice p) e = refl
-answered m i (call op c x) e = call-answers (requestOf op c x) m i (may-call (ltb i (size m)) (isActive (vcpuAt m i .phase)) _ e)
+answered m i (call op c x) e =
+    call-answers (requestOf op c x) m i (needed (isActive (vcpuAt m i .phase)) NotActive _ (needed (ltb i (size m)) UnknownVcpu _ e .1) .1)
 answered m i (entry iF sh bl) e = refl
 answered m i nonDelivery e = refl
 answered m i (handBack p iF sh) e = refl

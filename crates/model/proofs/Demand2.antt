@@ -3,45 +3,43 @@
 use mathlib.Core.Path.{_≡_, refl}
 use mathlib.Core.Bool.{Bool, true, false, cond, _&&_}
 use Prim.Native.Nat.{ℕ, _<_, _≤_}
-use native.Mathlib.Omega.{arith}
+use native.Mathlib.Nat.{not-suc-le-zero}
 use lib.Dec.{leb, ltb}
 use lib.ListN.{length}
 use borrow.Author.Tests.{ltb-true, leb-true}
 use Rattle.model.specs.declared.Refusal.the-variants.{UnknownVcpu, ShortPage, NotLeaving}
 use Rattle.model.specs.declared.Module.{Module}
 use Rattle.model.specs.State.{isLeaving, size, vcpuAt, start}
-use Rattle.model.specs.Codes.{Verdict, accept, refuse, need, done}
+use Rattle.model.specs.Codes.{Verdict, accept, refuse, done}
 use Rattle.model.specs.Doorbell.{longEnough, admitted}
 use Rattle.model.specs.Events.{handBack, at, Bytes, vcpuVerdict, verdict, effect, concluded, decided, step, final}
 use Rattle.model.specs.Demand2.{announce, pendingPart, ReadsBack, Demand2}
 use Rattle.vector_set.specs.Sets.{full}
 use Rattle.vector_set.proofs.Laws.{clash}
+use Rattle.model.proofs.Stored.{needed}
 use Rattle.model.proofs.Reached.{AllSound, all-reached}
 use Rattle.model.proofs.ReadBack.{read-back}
 use Rattle.model.proofs.Kept.{keeps-level, keeps-inactive}
 
 -- ---- what acceptance tells
 -- a vCPU is below n only where L is 1 to 3
-pub vmpl-of : (m : Module) (i : ℕ) → ltb i (size m) ≡ true → (1 ≤ m .vmpl) × (m .vmpl ≤ 3)
+pub vmpl-in : (m : Module) (i : ℕ) → i < size m → (1 ≤ m .vmpl) × (m .vmpl ≤ 3)
 unfolding size
-vmpl-of m i h = pick (leb (m .n) 32) (leb 1 (m .vmpl)) (leb (m .vmpl) 3) refl refl (ltb-true i (size m) h)
+vmpl-in m i h = pick (leb (m .n) 32) (leb 1 (m .vmpl)) (leb (m .vmpl) 3) refl refl h
   where
     pick : (a b c : Bool) → leb 1 (m .vmpl) ≡ b → leb (m .vmpl) 3 ≡ c → i < cond (a && b && c) (m .n) 0 → (1 ≤ m .vmpl) × (m .vmpl ≤ 3)
     pick true true true p q l = (leb-true 1 (m .vmpl) p, leb-true (m .vmpl) 3 q)
-    pick true true false p q l = let z : ⊥ = omega arith in absurd z
-    pick true false c p q l = let z : ⊥ = omega arith in absurd z
-    pick false b c p q l = let z : ⊥ = omega arith in absurd z
-
-accepted : (a b c : Bool) → need a UnknownVcpu (need b NotLeaving (need c ShortPage accept)) ≡ accept → (a ≡ true) × (c ≡ true)
-accepted true true true e = (refl, refl)
-accepted true true false e = clash (cc)
-accepted true false c e = clash (cc)
-accepted false b c e = clash (cc)
+    pick true true false p q l = absurd (not-suc-le-zero l)
+    pick true false c p q l = absurd (not-suc-le-zero l)
+    pick false b c p q l = absurd (not-suc-le-zero l)
 
 pub accepted-in : (m : Module) (i : ℕ) (p : Bytes) (iF sh : Bool) → verdict m (at i (handBack p iF sh)) ≡ accept
     → (ltb i (size m) ≡ true) × (longEnough p ≡ true)
 unfolding verdict vcpuVerdict
-accepted-in m i p iF sh e = accepted (ltb i (size m)) (isLeaving (vcpuAt m i .phase)) (longEnough p) e
+accepted-in m i p iF sh e =
+    let a = needed (ltb i (size m)) UnknownVcpu _ e in
+    let b = needed (isLeaving (vcpuAt m i .phase)) NotLeaving _ (a .1) in
+    (a .0, needed (longEnough p) ShortPage accept (b .1) .0)
 
 -- ---- the read-back
 reads-back : (m : Module) → AllSound m → (i : ℕ) (p : Bytes) (iF sh : Bool) → ReadsBack m i p iF sh
@@ -53,7 +51,7 @@ reads-back m s i p iF sh = over (verdict m (at i (handBack p iF sh))) (accepted-
     over (refuse c) h r e = clash (cc)
     over accept h r e =
         let a = h refl in
-        let b = vmpl-of m i (a .0) in
+        let b = vmpl-in m i (ltb-true i (size m) (a .0)) in
         read-back (m .vmpl) (vcpuAt m i) p (s i) (b .0) (b .1) (leb-true 256 (length p) (a .1))
 
 pub demand2 : Demand2

@@ -1,16 +1,14 @@
 -- Demand 3, proved from any module value and for what start gives.
 -- Assumes nothing.
-use mathlib.Core.Path.{_≡_, refl, subst}
-use mathlib.Core.Bool.{Bool, true, false, cond, _&&_}
+use mathlib.Core.Path.{subst}
 use mathlib.Core.List.{List}
 use Prim.Native.Nat.{ℕ, _≤_}
 use native.Mathlib.Omega.{arith}
-use lib.Dec.{leb}
 use Rattle.model.specs.declared.Phase.{Phase}
 use Rattle.model.specs.declared.Item.{Item}
 use Rattle.model.specs.declared.Item.the-variants as item
 use Rattle.model.specs.declared.Module.{Module}
-use Rattle.model.specs.State.{bare, size, vcpuAt, started, stopped, start}
+use Rattle.model.specs.State.{bare, vcpuAt, start}
 use Rattle.model.specs.Items.{InRange, pending}
 use Rattle.model.specs.Doorbell.{admitted}
 use Rattle.model.specs.Events.{notice, at, Bytes, Event, effect, concluded, step, final}
@@ -35,11 +33,13 @@ exact-at m i p =
     (λ c h. part-refused m i p c h) (λ h. (rw (part-accepted m i p h), part-accepted m i p h))
 
 exact-after : (m : Module) (es : List Event) (i : ℕ) (p : Bytes)
-    → Exact (step (final m es) (at i (notice p)) .result) (partBy (m .vmpl) (bookAfter m es) (at i (notice p))) (admitted (m .vmpl) (vcpuAt (final m es) i .allowed) p)
+    → Exact (step (final m es) (at i (notice p)) .result) (partBy (m .vmpl) (bookAfter m es) (at i (notice p)))
+    (admitted (m .vmpl) (vcpuAt (final m es) i .allowed) p)
 exact-after m es i p =
     rw (follow-all es m)
     (subst
-    (λ (k : ℕ). Exact (step (final m es) (at i (notice p)) .result) (partBy k (bookOf (final m es)) (at i (notice p))) (admitted k (vcpuAt (final m es) i .allowed) p))
+    (λ (k : ℕ). Exact (step (final m es) (at i (notice p)) .result) (partBy k (bookOf (final m es)) (at i (notice p)))
+    (admitted k (vcpuAt (final m es) i .allowed) p))
     (vmpl-final es m) (exact-at (final m es) i p))
 
 -- ---- from any module value
@@ -66,16 +66,3 @@ demand3 n l =
       isolated = isolated (start n l);
       most = λ es j x r. (let q = everywhere-start (λ v. one (pending x v) ≤ 0) (nothing-pending x r) n l j in omega (arith, q, bounded (start n l) es j x r));
     }
-
--- the book's n at first is the n of the module that start gives
-pub size-start : (n l : ℕ) → bookOf (start n l) .n ≡ start n l .n
-unfolding bookOf size start started stopped
-size-start n l = pick (leb 1 n) (leb n 32) (leb 1 l) (leb l 3) refl refl refl
-  where
-    pick : (a b c d : Bool) → leb n 32 ≡ b → leb 1 l ≡ c → leb l 3 ≡ d
-        → size (cond (a && b && c && d) (started n l) stopped) ≡ cond (a && b && c && d) (started n l) stopped .n
-    pick true true true true p q r = rw (p, q, r)
-    pick true true true false p q r = refl
-    pick true true false d p q r = refl
-    pick true false c d p q r = refl
-    pick false b c d p q r = refl

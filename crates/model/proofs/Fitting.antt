@@ -1,8 +1,8 @@
 -- What a call puts anywhere may stand there: a vector 31 to 255, in A the NMI's 2 too.
 -- Assumes nothing.
 use mathlib.Core.Path.{_≡_, refl}
-use mathlib.Core.Bool.{Bool, true, false, cond, not, _&&_, _||_}
-use Prim.Native.Nat.{ℕ, _-_, _≤_, _%_}
+use mathlib.Core.Bool.{Bool, true, false, cond, not, _&&_, _||_, and-eq-true-iff}
+use Prim.Native.Nat.{ℕ, _≤_, _%_}
 use lib.Dec.{leb, ltb, eqb}
 use Rattle.model.specs.declared.Item.the-variants as item
 use Rattle.model.specs.declared.Kind.{Kind}
@@ -11,14 +11,14 @@ use Rattle.model.specs.declared.Local.{Local}
 use Rattle.model.specs.declared.Local.the-variants as local
 use Rattle.model.specs.declared.Request.{Request}
 use Rattle.model.specs.declared.Request.the-variants as request
-use Rattle.model.specs.Doorbell.{isVector}
 use Rattle.model.specs.Registers.{kindOf}
 use Rattle.model.specs.Ipi.{icrVector, icrType, icrShorthand, icrIsFixed, icrIsNmi, icrFixedBits, icrLegal, icrItem}
 use Rattle.model.specs.Requests.{registration, readBy, writeValue, writeBy, mayName, nameable, permission, requestOf}
 use Rattle.model.specs.Demand3.{IsVector}
 use Rattle.vector_set.specs.Bits.{bitAt}
 use Rattle.vector_set.proofs.Laws.{clash}
-use Rattle.model.proofs.Allowed.{is-vector, and-left}
+use Rattle.vector_set.specs.Sets.{isVector}
+use Rattle.model.proofs.Allowed.{is-vector}
 
 -- ---- what the numbers of a call ask for
 -- a call that puts a vector somewhere names one that may stand there
@@ -45,7 +45,9 @@ either false r s p q = q
 
 fitting-icr : (x : ℕ) → icrLegal x ≡ true → IsVector (icrItem x)
 unfolding icrLegal icrItem icrIsFixed icrIsNmi
-fitting-icr x e = pick (icrFixedBits x) (eqb (icrType x) 0) (isVector (icrVector x)) (eqb (icrType x) 4) (not (eqb (icrShorthand x) 1 || eqb (icrShorthand x) 2)) refl e
+fitting-icr x e =
+    pick (icrFixedBits x) (eqb (icrType x) 0) (isVector (icrVector x)) (eqb (icrType x) 4)
+    (not (eqb (icrShorthand x) 1 || eqb (icrShorthand x) 2)) refl e
   where
     pick : (f z v n t : Bool) → isVector (icrVector x) ≡ v → (f && ((z && v) || (n && t))) ≡ true → IsVector (cond n item.Nmi (item.Vector (icrVector x)))
     pick f z v true t p q = tt
@@ -79,7 +81,7 @@ fitting-write kind.Both r x = fitting-value r x
 fitting-permission : (c : ℕ) → FittingRequest (permission c)
 unfolding permission FittingRequest nameable
 fitting-permission c =
-    either (nameable c) _ _ (λ e. either (bitAt c 8) _ _ (λ _. and-left (mayName (c % 256)) (ltb c 512) e) tt) tt
+    either (nameable c) _ _ (λ e. either (bitAt c 8) _ _ (λ _. and-eq-true-iff (mayName (c % 256)) (ltb c 512) .0 e .0) tt) tt
 
 pub fitting-request : (op c x : ℕ) → FittingRequest (requestOf op c x)
 unfolding requestOf registration FittingRequest

@@ -1,9 +1,8 @@
 -- The book follows the module: fed an event's note, the book of a module is the book of the module after the event.
 -- Assumes nothing.
 use mathlib.Core.Path.{_≡_, refl, ap, _∙_}
-use mathlib.Core.Bool.{Bool, true, false, cond, _&&_}
 use mathlib.Core.List.{List, [], _∷_, map}
-use Prim.Native.Nat.{ℕ, _-_}
+use Prim.Native.Nat.{ℕ}
 use lib.Dec.{ltb}
 use Rattle.model.specs.declared.Phase.the-variants.{Left}
 use Rattle.model.specs.declared.Refusal.{Refusal}
@@ -11,30 +10,20 @@ use Rattle.model.specs.declared.Refusal.the-variants.{UnknownVcpu, Short
 use Rattle.model.specs.declared.Vcpu.{Vcpu}
 use Rattle.model.specs.declared.Module.{Module}
 use Rattle.model.specs.State.{isActive, isLeaving, size, vcpuAt, withVcpu, withRegistrations}
-use Rattle.model.specs.Codes.{Verdict, accept, refuse, need}
+use Rattle.model.specs.Codes.{accept, refuse}
 use Rattle.model.specs.Items.{itemInFlight, unmarkAll}
 use Rattle.model.specs.Doorbell.{longEnough, noPart, admitted}
 use Rattle.model.specs.Requests.{requestOf, forget}
-use Rattle.model.specs.Events.{Act, notice, call, entry, nonDelivery, handBack, at, Bytes, Event, offer, emptied, vcpuVerdict, verdict, effect, concluded, next, final}
+use Rattle.model.specs.Events.{Act, notice, call, entry, nonDelivery, handBack, at, Bytes, Event, offer}
+use Rattle.model.specs.Events.{emptied, vcpuVerdict, verdict, effect, concluded, next, final}
 use Rattle.model.specs.Book.{note, Book, recordOf, bookOf, leaves, feedAct, feed, feedAll, partOn, partBy}
 use Rattle.model.specs.Lists.{struck}
 use Rattle.vector_set.specs.Sets.{empty}
-use Rattle.vector_set.proofs.Laws.{clash}
-use Rattle.model.proofs.Stored.{by-verdict, count-same}
+use Rattle.model.proofs.Stored.{count-same, taken, left-alone, all-three, not-three, by-verdict}
 use Rattle.model.proofs.BookLaws.{record-book, book-put, record-noticed, record-entered, record-undelivered}
 use Rattle.model.proofs.FollowCalls.{called-requests, nothing-stored, follow-request, refused-request}
 
--- ---- over the tests of the vCPU number and the phase, the last of which may be a third
-taken : (a b : Bool) (p q : Refusal) (g : Verdict) (w v u : Book) → need a p (need b q g) ≡ accept → (g ≡ accept → v ≡ u) → cond (a && b) v w ≡ u
-taken true true p q g w v u e h = h e
-taken true false p q g w v u e h = clash (cc)
-taken false b p q g w v u e h = clash (cc)
-
-left-alone : (a b : Bool) (p q c : Refusal) (g : Verdict) (w v : Book) → need a p (need b q g) ≡ refuse c → (g ≡ refuse c → v ≡ w) → cond (a && b) v w ≡ w
-left-alone true true p q c g w v e h = h e
-left-alone true false p q c g w v e h = refl
-left-alone false b p q c g w v e h = refl
-
+-- ---- an event, and a list
 record-emptied : (v : Vcpu) → recordOf (emptied v) ≡ record { phase = Left; allowed = empty }
 unfolding emptied unmarkAll
 record-emptied v = refl
@@ -43,19 +32,6 @@ follow-hand-back : (m : Module) (i : ℕ) → leaves i (bookOf m) ≡ bookOf (wi
 unfolding leaves
 follow-hand-back m i = rw (count-same, book-put, record-emptied (vcpuAt m i))
 
-all-three : (a b c : Bool) (w v : Book) → need a UnknownVcpu (need b NotLeaving (need c ShortPage accept)) ≡ accept → cond (a && b && c) v w ≡ v
-all-three true true true w v e = refl
-all-three true true false w v e = clash (cc)
-all-three true false c w v e = clash (cc)
-all-three false b c w v e = clash (cc)
-
-not-three : (a b c : Bool) (d : Refusal) (w v : Book) → need a UnknownVcpu (need b NotLeaving (need c ShortPage accept)) ≡ refuse d → cond (a && b && c) v w ≡ w
-not-three true true true d w v e = clash (cc)
-not-three true true false d w v e = refl
-not-three true false c d w v e = refl
-not-three false b c d w v e = refl
-
--- ---- an event, and a list
 pub follow-at : (m : Module) (i : ℕ) (a : Act Bytes) → feed (bookOf m) (note (at i a)) ≡ bookOf (next m (at i a))
 unfolding feedAct effect concluded verdict vcpuVerdict bookOf
 follow-at m i (notice p) =
@@ -75,8 +51,10 @@ follow-at m i nonDelivery =
     (λ e. nothing-stored _ i m (record-undelivered (itemInFlight (vcpuAt m i .flight)) (vcpuAt m i)))
 follow-at m i (handBack p iF sh) =
     by-verdict m (at i (handBack p iF sh)) (λ o. feed (bookOf m) (note (at i (handBack p iF sh))) ≡ bookOf (o .after))
-    (λ d e. rw (record-book m i) (not-three (ltb i (size m)) (isLeaving (vcpuAt m i .phase)) (longEnough p) d _ _ e))
-    (λ e. rw (record-book m i) (all-three (ltb i (size m)) (isLeaving (vcpuAt m i .phase)) (longEnough p) _ _ e ∙ follow-hand-back m i))
+    (λ d e. rw (record-book m i)
+    (not-three (ltb i (size m)) (isLeaving (vcpuAt m i .phase)) (longEnough p) UnknownVcpu NotLeaving ShortPage d _ _ e))
+    (λ e. rw (record-book m i)
+    (all-three (ltb i (size m)) (isLeaving (vcpuAt m i .phase)) (longEnough p) UnknownVcpu NotLeaving ShortPage _ _ e ∙ follow-hand-back m i))
 
 pub follow : (m : Module) (e : Event) → feed (bookOf m) (note e) ≡ bookOf (next m e)
 follow m e = follow-at m (e .vcpu) (e .act)
@@ -104,23 +82,11 @@ struck-book (e ∷ es) w = pick (e .vcpu) (e .act) (λ u. struck-book es u)
 pub part-accepted : (m : Module) (i : ℕ) (p : Bytes) → verdict m (at i (notice p)) ≡ accept
     → partBy (m .vmpl) (bookOf m) (at i (notice p)) ≡ admitted (m .vmpl) (vcpuAt m i .allowed) p
 unfolding verdict vcpuVerdict partOn bookOf
-part-accepted m i p h = rw (record-book m i) (pick (ltb i (size m)) (isActive (vcpuAt m i .phase)) (longEnough p) h)
-  where
-    pick : (a b c : Bool) → need a UnknownVcpu (need b NotActive (need c ShortPage accept)) ≡ accept
-        → cond (a && b && c) (admitted (m .vmpl) (vcpuAt m i .allowed) p) noPart ≡ admitted (m .vmpl) (vcpuAt m i .allowed) p
-    pick true true true e = refl
-    pick true true false e = clash (cc)
-    pick true false c e = clash (cc)
-    pick false b c e = clash (cc)
+part-accepted m i p h =
+    rw (record-book m i) (all-three (ltb i (size m)) (isActive (vcpuAt m i .phase)) (longEnough p) UnknownVcpu NotActive ShortPage _ _ h)
 
 pub part-refused : (m : Module) (i : ℕ) (p : Bytes) (d : Refusal) → verdict m (at i (notice p)) ≡ refuse d
     → partBy (m .vmpl) (bookOf m) (at i (notice p)) ≡ noPart
 unfolding verdict vcpuVerdict partOn bookOf
-part-refused m i p d h = rw (record-book m i) (pick (ltb i (size m)) (isActive (vcpuAt m i .phase)) (longEnough p) h)
-  where
-    pick : (a b c : Bool) → need a UnknownVcpu (need b NotActive (need c ShortPage accept)) ≡ refuse d
-        → cond (a && b && c) (admitted (m .vmpl) (vcpuAt m i .allowed) p) noPart ≡ noPart
-    pick true true true e = clash (cc)
-    pick true true false e = refl
-    pick true false c e = refl
-    pick false b c e = refl
+part-refused m i p d h =
+    rw (record-book m i) (not-three (ltb i (size m)) (isActive (vcpuAt m i .phase)) (longEnough p) UnknownVcpu NotActive ShortPage d _ _ h)

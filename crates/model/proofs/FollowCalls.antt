@@ -1,7 +1,7 @@
 -- The book follows a call: the book's rule, by call number and ECX, is the rule by what the machine takes the call for.
 -- Assumes nothing.
-use mathlib.Core.Path.{_≡_, refl, sym, _∙_}
-use mathlib.Core.Bool.{Bool, true, false, cond, _&&_}
+use mathlib.Core.Path.{_≡_, refl, sym}
+use mathlib.Core.Bool.{Bool, true, false, cond}
 use mathlib.Core.Option.{Option, none, some}
 use Prim.Native.Nat.{ℕ, _+_, _-_, _%_}
 use lib.Dec.{leb, eqb}
@@ -20,16 +20,16 @@ use Rattle.model.specs.declared.Vcpu.{Vcpu}
 use Rattle.model.specs.declared.Module.{Module}
 use Rattle.model.specs.State.{vcpuAt, withVcpu, withRegistrations}
 use Rattle.model.specs.Codes.{accept, refuse, need}
-use Rattle.model.specs.Doorbell.{isVector}
 use Rattle.model.specs.Registers.{kindOf, endedAt, ended}
 use Rattle.model.specs.Ipi.{icrLegal}
 use Rattle.model.specs.Requests.{bad, registration, readBy, writeValue, writeBy, nameable, permission, requestOf, forget, leaveIf, serve, callVerdict}
 use Rattle.model.specs.Events.{verdict, callEffect, concluded}
-use Rattle.model.specs.Book.{BookRecord, Book, recordOf, bookOf, recordAt, withRecord, withCount, withPhase, leavesAtZero, takesOne, addsOne, registers, permits, called}
+use Rattle.model.specs.Book.{BookRecord, Book, recordOf, bookOf, recordAt, withRecord, withCount, withPhase}
+use Rattle.model.specs.Book.{leavesAtZero, takesOne, addsOne, registers, permits, called}
 use Rattle.vector_set.specs.Bits.{bitAt}
-use Rattle.vector_set.specs.Sets.{insert, remove}
+use Rattle.vector_set.specs.Sets.{insert, remove, isVector}
 use Rattle.vector_set.proofs.Laws.{clash}
-use Rattle.model.proofs.Stored.{count-same}
+use Rattle.model.proofs.Stored.{count-same, taken, left-alone}
 use Rattle.model.proofs.BookLaws.{record-book, book-put, book-put-same, book-count, record-mark, book-sent}
 
 -- ---- the rule on calls, by what their numbers ask for
@@ -169,27 +169,20 @@ follow-release : (m : Module) (i : ℕ)
 unfolding leavesAtZero takesOne withCount bookOf
 follow-release m i = leave-at (eqb (m .registrations - 1) 0) (m .registrations - 1) m i
 
--- where the count lets a registration be served, and where it does not
-added : (a b : Bool) (w v : Book) → need a NotRegistered (need b RegistrationsFull accept) ≡ accept → cond (a && b) v w ≡ v
-added true true w v e = refl
-added true false w v e = clash (cc)
-added false b w v e = clash (cc)
-
-not-added : (a b : Bool) (c : Refusal) (w v : Book) → need a NotRegistered (need b RegistrationsFull accept) ≡ refuse c → cond (a && b) v w ≡ w
-not-added true true c w v e = clash (cc)
-not-added true false c w v e = refl
-not-added false b c w v e = refl
-
+-- a registration, where the count lets it be served
 follow-register : (m : Module) (i : ℕ) → need (leb 1 (m .registrations)) NotRegistered (need (leb (m .registrations) 254) RegistrationsFull accept) ≡ accept
     → addsOne (bookOf m) ≡ bookOf (withRegistrations (m .registrations + 1) (withVcpu m i (forget (vcpuAt m i))))
 unfolding addsOne bookOf
 follow-register m i e =
-    added (leb 1 (m .registrations)) (leb (m .registrations) 254) _ _ e ∙ book-store-same (m .registrations + 1) (forget (vcpuAt m i)) i m refl
+    taken (leb 1 (m .registrations)) (leb (m .registrations) 254) NotRegistered RegistrationsFull accept _ _ _ e
+    (λ _. book-store-same (m .registrations + 1) (forget (vcpuAt m i)) i m refl)
 
 -- a request that is served
 follow-serve : (o : Local) (m : Module) (i : ℕ) → serve o i (m .registrations) (forget (vcpuAt m i)) .verdict ≡ accept
     → serves i o (bookOf m)
-    ≡ bookOf (withRegistrations (serve o i (m .registrations) (forget (vcpuAt m i)) .registrations) (withVcpu m i (serve o i (m .registrations) (forget (vcpuAt m i)) .vcpu)))
+    ≡ bookOf
+    (withRegistrations (serve o i (m .registrations) (forget (vcpuAt m i)) .registrations)
+    (withVcpu m i (serve o i (m .registrations) (forget (vcpuAt m i)) .vcpu)))
 unfolding serve ended
 follow-serve local.Features m i e = nothing-stored _ i m refl
 follow-serve local.Leave m i e = follow-leave m i
@@ -216,7 +209,8 @@ unfolding serve addsOne bookOf
 refused-serve local.Features m i c e = clash (cc)
 refused-serve local.Leave m i c e = clash (cc)
 refused-serve local.Release m i c e = clash (cc)
-refused-serve local.Register m i c e = not-added (leb 1 (m .registrations)) (leb (m .registrations) 254) c _ _ e
+refused-serve local.Register m i c e =
+    left-alone (leb 1 (m .registrations)) (leb (m .registrations) 254) NotRegistered RegistrationsFull c accept _ _ e (λ q. clash (cc))
 refused-serve (local.Allow x) m i c e = clash (cc)
 refused-serve (local.Disallow x) m i c e = clash (cc)
 refused-serve (local.Read r) m i c e = clash (cc)

@@ -33,11 +33,6 @@ pending-unmark (Vector z) r Nmi v = refl
 pending-unmark Nmi r (Vector y) v = refl
 pending-unmark (Vector z) r (Vector y) v = has-remove y (v .irr) z r
 
-pub rest-unmark : (y : Item) (v : Vcpu) → Rest (unmark y v) v
-unfolding unmark
-rest-unmark Nmi v = refl
-rest-unmark (Vector y) v = refl
-
 pub pending-markAll : (x : Item) → InRange x → (f : Item → Bool) (v : Vcpu) → pending x (markAll f v) ≡ (pending x v || f x)
 unfolding markAll
 pending-markAll Nmi r f v = refl
@@ -51,7 +46,3 @@ pub pending-unmarkAll : (x : Item) → InRange x → (v : Vcpu) → pending x (u
 unfolding unmarkAll
 pending-unmarkAll Nmi r v = refl
 pending-unmarkAll (Vector z) r v = has-empty z r
-
-pub rest-unmarkAll : (v : Vcpu) → Rest (unmarkAll v) v
-unfolding unmarkAll
-rest-unmarkAll v = refl

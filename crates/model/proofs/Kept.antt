@@ -21,12 +21,13 @@ use Rattle.model.specs.Registers.{endedAt, ended}
 use Rattle.model.specs.Ipi.{icrItem, icrTarget, hits, reach}
 use Rattle.model.specs.Items.{mark}
 use Rattle.model.specs.Requests.{requestOf, forget, leaveIf, serve}
-use Rattle.model.specs.Events.{Act, notice, call, entry, nonDelivery, handBack, Bytes, Event, noticed, Reply, gives, sends, callEffect, effect, effectOf, store, deliver, concluded, next}
+use Rattle.model.specs.Events.{Act, notice, call, entry, nonDelivery, handBack, Bytes, Event, noticed, Reply, gives}
+use Rattle.model.specs.Events.{sends, callEffect, effect, effectOf, store, deliver, concluded, next}
 use Rattle.model.specs.Causes.{isHandBack}
 use Rattle.model.specs.Demand2.{isRequest}
 use Rattle.vector_set.specs.Sets.{has, highest}
 use Rattle.vector_set.proofs.Laws.{clash, has-collect}
-use Rattle.model.proofs.Stored.{on-put, vcpuAt-count, vcpuAt-sent, by-verdict, known-of, servedIn}
+use Rattle.model.proofs.Stored.{on-put, by-reach, vcpuAt-count, vcpuAt-sent, by-verdict, known-of, servedIn}
 use Rattle.model.proofs.ItemLaws.{rest-mark}
 
 -- ---- a request takes no vector out of PL
@@ -34,12 +35,7 @@ level-mark : (y : Item) (v : Vcpu) → mark y v .«irr_level» ≡ v .«irr_leve
 level-mark y v = ap (λ (u : Vcpu). u .«irr_level») (rest-mark y v)
 
 level-reach : (y : Item) (t : Target) (i n k : ℕ) (v : Vcpu) → reach y t i n k v .«irr_level» ≡ v .«irr_level»
-unfolding reach
-level-reach y t i n k v = pick (ltb k n && hits t i k && isActive (v .phase))
-  where
-    pick : (b : Bool) → cond b (mark y v) v .«irr_level» ≡ v .«irr_level»
-    pick true = level-mark y v
-    pick false = refl
+level-reach y t i n k v = by-reach y t i n k v (λ u. u .«irr_level» ≡ v .«irr_level») (level-mark y v) refl
 
 level-leave : (b : Bool) (v : Vcpu) → leaveIf b v .«irr_level» ≡ v .«irr_level»
 level-leave true v = refl

@@ -1,7 +1,7 @@
 -- What is pending and in flight at a record after each change, and that what an entry presents was pending.
 -- Assumes nothing.
 use mathlib.Core.Path.{_≡_, refl, ap, _∙_}
-use mathlib.Core.Bool.{Bool, true, false, cond, not, _&&_, _||_}
+use mathlib.Core.Bool.{Bool, true, false, cond, not, _&&_, _||_, and-true, and-false, or-comm}
 use mathlib.Core.Option.{Option, none, some}
 use Prim.Native.Nat.{ℕ, _+_, _-_, _≤_}
 use native.Mathlib.Omega.{arith}
@@ -25,7 +25,6 @@ use Rattle.model.specs.Ledger.{tally}
 use Rattle.vector_set.specs.Bits.{one}
 use Rattle.vector_set.specs.Sets.{highest}
 use Rattle.vector_set.proofs.Laws.{clash, highest-has}
-use Rattle.model.proofs.Tests.{and-true, and-false}
 use Rattle.model.proofs.ItemLaws.{pending-mark, rest-mark, pending-unmark, pending-markAll, rest-markAll, pending-unmarkAll}
 
 -- ---- what is pending at a record after each change
@@ -60,12 +59,6 @@ gives x (local.SelfIpi y) = sameItem x (item.Vector y)
 pub record Like (x : Item) (b : Bool) (u v : Vcpu) : Type 0 where
   pub pends : pending x v ≡ (b || pending x u)
   pub inFlight : v .flight ≡ u .flight
-
-or-comm : (a b : Bool) → (a || b) ≡ (b || a)
-or-comm true true = refl
-or-comm true false = refl
-or-comm false true = refl
-or-comm false false = refl
 
 pub like-noticed : (x : Item) → InRange x → (s : Part) (v : Vcpu) → Like x (inPart x s) v (noticed s v)
 unfolding noticed

@@ -11,13 +11,12 @@ use Rattle.model.specs.declared.Target.{Target}
 use Rattle.model.specs.declared.Vcpu.{Vcpu}
 use Rattle.model.specs.declared.Module.{Module}
 use Rattle.model.specs.State.{bare, fresh, absent, size, vcpuAt, mayStart, started, stopped, start, withVcpu, withRegistrations}
-use Rattle.model.specs.Items.{mark}
-use Rattle.model.specs.Ipi.{icrItem, icrTarget, reached, reach, mapFrom, sent}
+use Rattle.model.specs.Ipi.{icrItem, icrTarget, reach, mapFrom, sent}
 use Rattle.model.specs.Events.{Event, Reply, gives, sends, effectOf, concluded, deliver, next, final}
 use Rattle.model.specs.Reached.{Sound}
 use Rattle.model.specs.Demand3.{IsVector}
 use Rattle.vector_set.proofs.Laws.{words-empty}
-use Rattle.model.proofs.Stored.{by-verdict, known-of}
+use Rattle.model.proofs.Stored.{by-reach, by-verdict, known-of}
 use Rattle.model.proofs.LevelledLaws.{levelled-empty}
 use Rattle.model.proofs.SoundRecords.{at-rest, sound-mark, none-named, Sending, sending-effect, sound-effect}
 
@@ -62,12 +61,7 @@ unfolding vcpuAt withRegistrations
 all-count k m h = h
 
 sound-reach : (y : Item) (t : Target) (i n k : ℕ) (v : Vcpu) → IsVector y → Sound v → Sound (reach y t i n k v)
-unfolding reach
-sound-reach y t i n k v q h = pick (reached t i n k (v .phase))
-  where
-    pick : (b : Bool) → Sound (cond b (mark y v) v)
-    pick true = sound-mark y v q h
-    pick false = h
+sound-reach y t i n k v q h = by-reach y t i n k v Sound (sound-mark y v q h) h
 
 all-sent : (y : Item) (t : Target) (i : ℕ) (m : Module) → IsVector y → AllSound m → AllSound (sent y t i m)
 unfolding vcpuAt sent

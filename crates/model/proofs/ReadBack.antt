@@ -1,7 +1,7 @@
 -- The descriptor that a hand-back writes, read again by the notice rule.
 -- Assumes nothing.
 use mathlib.Core.Path.{_≡_, refl, sym, ap, _∙_}
-use mathlib.Core.Bool.{Bool, true, false, cond, not, _&&_, _||_}
+use mathlib.Core.Bool.{Bool, true, false, cond, not, _&&_, _||_, or-false, or-true, and-true, and-false}
 use mathlib.Core.List.{List}
 use mathlib.Core.Option.{Option, none, some, Option·getD}
 use Prim.Native.Nat.{ℕ, _+_, _*_, _^_, _<_, _≤_}
@@ -11,16 +11,19 @@ use lib.ListN.{length, getD, drop, length-append, length-take, length-drop, List
 use lib.Seq.{ext-getD, getD-take, getD-drop}
 use borrow.Author.Tests.{leb-true, leb-false, le-leb, lt-leb, eqb-true, eq-eqb, ne-eqb}
 use Rattle.model.specs.declared.Vcpu.{Vcpu}
-use Rattle.model.specs.Doorbell.{bitOf, bytesFrom, mapBits, announcingBit, announces, descriptor, vectorField, nmiBit, levelBit, manyBit, isVector, isLevel, admitsNmi, admitsLevel, admitsEdge, admits, admitted, handedBit, servingBit, handedBytes, written}
+use Rattle.model.specs.Doorbell.{bitOf, bytesFrom, mapBits, announcingBit, announces, descriptor, vectorField, nmiBit, levelBit, manyBit, isVector}
+use Rattle.model.specs.Doorbell.{isLevel, admitsNmi, admitsLevel, admitsEdge, admits, admitted, handedBit, servingBit, handedBytes, written}
 use Rattle.model.specs.Events.{handed}
 use Rattle.model.specs.Demand2.{announce, pendingPart}
 use Rattle.model.specs.Reached.{Levelled, Sound}
-use Rattle.model.proofs.Tests.{or-false, or-true, and-true, and-false, eqb-above, eqb-below}
-use Rattle.model.proofs.Bytes.{bitOf-byte, bytesFrom-at, bytesFrom-length, bytesFrom-bit, mapBits-length, mapBits-bit, written-length, written-at}
+use Rattle.model.proofs.Tests.{eqb-above, eqb-below}
+use Rattle.model.proofs.LevelledLaws.{levelled-low}
+use Rattle.model.proofs.Bytes.{bitOf-byte, bytesFrom-at, bytesFrom-length, bytesFrom-bit}
+use Rattle.model.proofs.Bytes.{mapBits-length, mapBits-bit, spliced-length, spliced-in, written-is}
 use Rattle.vector_set.specs.Bits.{bitAt, bits}
 use Rattle.vector_set.specs.Sets.{has, collect, full, difference, highest, isNone, isEmpty}
 use Rattle.vector_set.proofs.BitLaws.{bits-bit, bits-lt, bits-unique}
-use Rattle.vector_set.proofs.Laws.{clash, has-full, collect-ext, has-collect, highest-has, isEmpty-has}
+use Rattle.vector_set.proofs.Laws.{has-full, collect-ext, has-collect, highest-has, isEmpty-has}
 
 -- ---- the page
 announced : (l : ℕ) (q : List ℕ) → 256 ≤ length q → l ≤ 3 → announces l (announce l q) ≡ true
@@ -50,7 +53,13 @@ module _ (l : ℕ) (v : Vcpu) (p : List ℕ) (low : 1 ≤ l) (high : l ≤ 3) (l
   after = written l (handed v) p
 
   after-length : length after ≡ length p
-  after-length = written-length l (handed v) p (omega arith) (handed-length v)
+  after-length = rw (written-is l (handed v) p) (spliced-length p (64 * l) 64 (handed v) (omega arith) (handed-length v))
+
+  -- byte j of the descriptor
+  after-at : (j : ℕ) → j < 32 → getD after (64 * l + j) 0 ≡ bits (handedAt v) (8 * (0 + j)) 8
+  after-at j h =
+      rw (written-is l (handed v) p)
+      (spliced-in p (64 * l) 64 (handed v) (omega arith) (handed-length v) j (omega arith) ∙ handed-at v j h)
 
   set-bit : ℕ → Bool
   set-bit k = bitOf after k || eqb k (announcingBit l)
@@ -62,7 +71,7 @@ module _ (l : ℕ) (v : Vcpu) (p : List ℕ) (low : 1 ≤ l) (high : l ≤ 3) (l
       let e : 8 * (0 + (64 * l + j)) + b ≡ 8 * (64 * l + j) + b = omega arith in
       rw (e, ne-eqb (8 * (64 * l + j) + b) (announcingBit l) (λ (q : 8 * (64 * l + j) + b ≡ announcingBit l). omega arith), or-false)
       (bitOf-byte after (64 * l + j) b hb
-      ∙ ap (λ (x : ℕ). bitAt x b) (written-at l (handed v) p (omega arith) (handed-length v) j (omega arith) ∙ handed-at v j hj)
+      ∙ ap (λ (x : ℕ). bitAt x b) (after-at j hj)
       ∙ bits-bit (handedAt v) (8 * (0 + j)) 8 b hb)
 
   announce-length : length (announce l after) ≡ length p
@@ -78,7 +87,9 @@ module _ (l : ℕ) (v : Vcpu) (p : List ℕ) (low : 1 ≤ l) (high : l ≤ 3) (l
 
   descriptor-is : descriptor l (announce l after) ≡ bytesFrom (handedAt v) 0 32
   unfolding descriptor
-  descriptor-is = ext-getD 0 (descriptor l (announce l after)) (bytesFrom (handedAt v) 0 32) (size ∙ sym (bytesFrom-length _ 0 32)) (λ j h. byte j (omega (arith, size)))
+  descriptor-is =
+      ext-getD 0 (descriptor l (announce l after)) (bytesFrom (handedAt v) 0 32) (size ∙ sym (bytesFrom-length _ 0 32))
+      (λ j h. byte j (omega (arith, size)))
     where
       size : length (descriptor l (announce l after)) ≡ 32
       size = simp (length-take, length-drop, announce-length) (omega arith)
@@ -124,7 +135,14 @@ module _ (v : Vcpu) (sound : Levelled (v .irr) (v .«irr_level»)) where
   unfolding handedAt handedBit
   bit-vector x g h =
       bit x h
-      ∙ rw (lt-leb x 7 (omega arith), eqb-above x 8 (omega arith), eqb-above x 10 (omega arith), eqb-above x 14 (omega arith), le-leb 31 x g, le-leb x 255 (omega arith))
+      ∙ rw (
+        lt-leb x 7 (omega arith),
+        eqb-above x 8 (omega arith),
+        eqb-above x 10 (omega arith),
+        eqb-above x 14 (omega arith),
+        le-leb 31 x g,
+        le-leb x 255 (omega arith),
+      )
 
   bit-field : (b : ℕ) → b < 8 → handedAt v b ≡ bitAt (Option·getD (highest (v .«irr_level»)) 0) b
   unfolding handedAt handedBit
@@ -136,7 +154,9 @@ module _ (v : Vcpu) (sound : Levelled (v .irr) (v .«irr_level»)) where
   reads-field : vectorField d ≡ Option·getD (highest (v .«irr_level»)) 0
   reads-field =
       bytesFrom-at (handedAt v) 0 32 0 (omega arith)
-      ∙ sym (bits-unique (handedAt v) 0 8 (Option·getD (highest (v .«irr_level»)) 0) (small (highest (v .«irr_level»)) refl) (λ b h. let e : 0 + b ≡ b = omega arith in rw e (sym (bit-field b h))))
+      ∙ sym
+      (bits-unique (handedAt v) 0 8 (Option·getD (highest (v .«irr_level»)) 0) (small (highest (v .«irr_level»)) refl)
+      (λ b h. let e : 0 + b ≡ b = omega arith in rw e (sym (bit-field b h))))
     where
       small : (o : Option ℕ) → highest (v .«irr_level») ≡ o → Option·getD o 0 < 2 ^ 8
       small none e = omega arith
@@ -144,15 +164,9 @@ module _ (v : Vcpu) (sound : Levelled (v .irr) (v .«irr_level»)) where
 
   -- the highest of PL is not below 31
   level-vector : (x : ℕ) → highest (v .«irr_level») ≡ some x → 31 ≤ x
-  level-vector x e = pick (leb 31 x) refl
-    where
-      pick : (b : Bool) → leb 31 x ≡ b → 31 ≤ x
-      pick true p = leb-true 31 x p
-      pick false p =
-          let a = highest-has (v .«irr_level») x e in
-          let m = sound .within x (a .1) (a .0) in
-          let n = sound .vectors x (leb-false 31 x p) in
-          clash (cc)
+  level-vector x e =
+      let a = highest-has (v .«irr_level») x e in
+      levelled-low (v .irr) (v .«irr_level») sound x (sound .within x (a .1) (a .0))
 
   reads-nmi : admitsNmi full d ≡ v .nmi
   unfolding admitsNmi

@@ -1,7 +1,7 @@
 -- What a call sends, by what its numbers ask for, is no more than the ledger posts for its numbers.
 -- Assumes nothing.
 use mathlib.Core.Bool.{Bool, true, false, cond, _&&_, _||_}
-use Prim.Native.Nat.{ℕ, _-_, _≤_}
+use Prim.Native.Nat.{ℕ, _≤_}
 use native.Mathlib.Omega.{arith}
 use lib.Dec.{ltb, leb, eqb}
 use Rattle.model.specs.declared.Item.{Item}
@@ -15,13 +15,13 @@ use Rattle.model.specs.declared.Local.the-variants as local
 use Rattle.model.specs.declared.Request.{Request}
 use Rattle.model.specs.declared.Request.the-variants as request
 use Rattle.model.specs.State.{isActive}
-use Rattle.model.specs.Doorbell.{isVector}
 use Rattle.model.specs.Registers.{kindOf}
 use Rattle.model.specs.Ipi.{icrLegal, icrItem, icrTarget, hits}
 use Rattle.model.specs.Requests.{bad, registration, readBy, writeValue, writeBy, nameable, permission, requestOf}
 use Rattle.model.specs.Book.{Book, recordAt}
 use Rattle.model.specs.Ledger.{reaches, writeSends}
 use Rattle.vector_set.specs.Bits.{one, bitAt}
+use Rattle.vector_set.specs.Sets.{isVector}
 use Rattle.model.proofs.Pending.{gives}
 
 -- ---- what a call sends, by what its numbers ask for

@@ -1,13 +1,13 @@
 -- Why the record of an accepted event's vCPU stays sound.
 -- Assumes nothing.
 use mathlib.Core.Path.{_≡_, refl, sym, _∙_}
-use mathlib.Core.Bool.{Bool, true, false, cond, not, _&&_, _||_}
+use mathlib.Core.Bool.{Bool, true, false, cond, not, _&&_, _||_, or-true}
 use mathlib.Core.List.{List}
 use mathlib.Core.Option.{Option, none, some}
 use Prim.Native.Nat.{ℕ, _-_, _<_, _≤_}
 use native.Mathlib.Omega.{arith}
 use lib.Dec.{leb, eqb}
-use borrow.Author.Tests.{leb-true, leb-false, eqb-true, eq-eqb}
+use borrow.Author.Tests.{eqb-true, eq-eqb}
 use Rattle.model.specs.declared.Phase.{Phase}
 use Rattle.model.specs.declared.Phase.the-variants.{Active, Leaving, Left}
 use Rattle.model.specs.declared.InFlight.{InFlight}
@@ -26,15 +26,15 @@ use Rattle.model.specs.Doorbell.{Part, isLevel, inPart, admitted}
 use Rattle.model.specs.Registers.{ppr, class, endedAt, ended}
 use Rattle.model.specs.Ipi.{icrItem}
 use Rattle.model.specs.Requests.{mayName, nameable, requestOf, forget, leaveIf, serve}
-use Rattle.model.specs.Events.{Act, notice, call, entry, nonDelivery, handBack, Bytes, noticed, offerHighest, offer, present, entered, giveBack, undelivered, emptied, Reply, gives, sends, callEffect, effect}
+use Rattle.model.specs.Events.{Act, notice, call, entry, nonDelivery, handBack, Bytes, noticed, offerHighest, offer, present}
+use Rattle.model.specs.Events.{entered, giveBack, undelivered, emptied, Reply, gives, sends, callEffect, effect}
 use Rattle.model.specs.Reached.{Levelled, Sound}
 use Rattle.model.specs.Demand3.{IsVector}
 use Rattle.vector_set.specs.Sets.{Words, has, empty, insert, remove, highest}
 use Rattle.vector_set.proofs.Laws.{clash, has-empty, has-insert, has-remove, words-empty, words-insert, words-remove, highest-has}
-use Rattle.model.proofs.Tests.{or-true}
 use Rattle.model.proofs.Stored.{servedIn}
 use Rattle.model.proofs.Allowed.{admitted-fits}
-use Rattle.model.proofs.LevelledLaws.{levelled, levelled-empty, levelled-remove, levelled-insert, levelled-gains}
+use Rattle.model.proofs.LevelledLaws.{levelled, levelled-empty, levelled-low, levelled-remove, levelled-insert, levelled-gains}
 use Rattle.model.proofs.Fitting.{Fitting, FittingRequest, fitting-request}
 
 -- ---- records
@@ -148,14 +148,10 @@ shown-offer : (iF sh bl : Bool) (v : Vcpu) → Sound v → Shown (offer iF sh bl
 unfolding offer offerHighest
 shown-offer iF sh bl v h = pick (v .nmi && not (sh || bl))
   where
-    not-low : (x : ℕ) → has (v .irr) x ≡ true → (t : Bool) → leb 31 x ≡ t → 31 ≤ x
-    not-low x m true p = leb-true 31 x p
-    not-low x m false p = let a = h .irr .vectors x (leb-false 31 x p) in clash (cc)
-
     over : (a b : Bool) (x : ℕ) → highest (v .irr) ≡ some x → Shown (cond a nothing (cond b (presents (item.Vector x)) (window x)))
     over true b x e = tt
     over false false x e = tt
-    over false true x e = (not-low x (highest-has (v .irr) x e .0) (leb 31 x) refl, highest-has (v .irr) x e .1)
+    over false true x e = (levelled-low (v .irr) _ (h .irr) x (highest-has (v .irr) x e .0), highest-has (v .irr) x e .1)
 
     high : (o : Option ℕ) → highest (v .irr) ≡ o → Shown (offerHighest (iF && not sh) (ppr v) o)
     high none e = tt
@@ -190,14 +186,10 @@ Returned (some y) = IsVector y
 returned-flying : (v : Vcpu) → Sound v → Returned (itemInFlight (v .flight))
 returned-flying v h = go (v .flight) refl
   where
-    not-low : (x : ℕ) → has (v .isr) x ≡ true → (t : Bool) → leb 31 x ≡ t → 31 ≤ x
-    not-low x m true p = leb-true 31 x p
-    not-low x m false p = let a = h .isr .vectors x (leb-false 31 x p) in clash (cc)
-
     go : (f : InFlight) → v .flight ≡ f → Returned (itemInFlight f)
     go flight.Nothing e = tt
     go flight.Nmi e = tt
-    go (flight.Vector x) e = not-low x (h .inService x e) (leb 31 x) refl
+    go (flight.Vector x) e = levelled-low (v .isr) _ (h .isr) x (h .inService x e)
 
 sound-undelivered : (o : Option Item) (v : Vcpu) → Returned o → Sound v → Sound (undelivered o v)
 unfolding undelivered giveBack mark

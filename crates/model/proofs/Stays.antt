@@ -12,7 +12,8 @@ use Rattle.model.specs.State.{isActive, isLeaving, withVcpu, withRegistr
 use Rattle.model.specs.Ipi.{icrItem, icrTarget, sent}
 use Rattle.model.specs.Requests.{nameable}
 use Rattle.model.specs.Events.{Act, notice, call, entry, nonDelivery, handBack, Event, Reply, gives, sends, effectOf, deliver, concluded, next, final}
-use Rattle.model.specs.Book.{Book, Note, recordAt, withRecord, withCount, leavesAtZero, takesOne, addsOne, registers, permits, called, leaves, feedAct, feed}
+use Rattle.model.specs.Book.{Book, Note, recordAt, withRecord, withCount, leavesAtZero, takesOne}
+use Rattle.model.specs.Book.{addsOne, registers, permits, called, leaves, feedAct, feed}
 use Rattle.vector_set.specs.Bits.{bitAt}
 use Rattle.model.proofs.Stored.{by-verdict}
 

@@ -1,9 +1,9 @@
 -- A module's record after one was stored and after an IPI, and the step of an event by its verdict: the laws on which all claims stand.
 -- Assumes nothing.
 use mathlib.Core.Path.{_≡_, refl, sym, subst}
-use mathlib.Core.Bool.{Bool, true, false, _&&_}
+use mathlib.Core.Bool.{Bool, true, false, cond, _&&_, and-false}
 use mathlib.Core.List.{List, [], _∷_}
-use Prim.Native.Nat.{ℕ, zero, suc, _+_, _<_}
+use Prim.Native.Nat.{ℕ, zero, suc, _+_, _<_, _≤_, zero-le}
 use native.Mathlib.Omega.{arith}
 use lib.Dec.{ltb, eqb}
 use lib.ListN.{length, getD, List·getD-eq-default}
@@ -19,10 +19,11 @@ use Rattle.model.specs.declared.Vcpu.{Vcpu}
 use Rattle.model.specs.declared.Module.{Module}
 use Rattle.model.specs.State.{isActive, isLeaving, bare, absent, size, vcpuAt, withVcpu, withRegistrations}
 use Rattle.model.specs.Codes.{Verdict, accept, refuse, need}
-use Rattle.model.specs.Ipi.{hits, reach, mapFrom, sent}
-use Rattle.model.specs.Events.{Act, notice, call, entry, nonDelivery, handBack, Bytes, Event, pageOf, vcpuVerdict, verdict, effectOf, Out, refusal, concluded, decided, step}
+use Rattle.model.specs.Items.{mark}
+use Rattle.model.specs.Ipi.{hits, reached, reach, mapFrom, sent}
+use Rattle.model.specs.Events.{Act, notice, call, entry, nonDelivery, handBack, Bytes, Event, pageOf}
+use Rattle.model.specs.Events.{vcpuVerdict, verdict, effectOf, Out, refusal, concluded, decided, step}
 use Rattle.vector_set.proofs.Laws.{clash}
-use Rattle.model.proofs.Tests.{and-false}
 
 -- ---- a record after one was stored
 -- what is shown of the record j after the record i became v: at i itself, and at any other
@@ -53,12 +54,14 @@ unfolding withRegistrations withVcpu
 count-same m i v = refl
 
 -- ---- a record after an IPI
-mapFrom-at : (f : ℕ → Vcpu → Vcpu) → ((k : ℕ) → f k absent ≡ absent) → (k : ℕ) (l : List Vcpu) (j : ℕ)
-    → getD (mapFrom f k l) j absent ≡ f (k + j) (getD l j absent)
+-- the record j of a list that is gone through from number k on: one that is there, or a default that stays as it is
+pub mapFrom-at : (f : ℕ → Vcpu → Vcpu) (k : ℕ) (l : List Vcpu) (j : ℕ) (d : Vcpu) → (length l ≤ j → d ≡ f (k + j) d)
+    → getD (mapFrom f k l) j d ≡ f (k + j) (getD l j d)
 unfolding mapFrom
-mapFrom-at f h k [] j = sym (h (k + j))
-mapFrom-at f h k (v ∷ l) zero = let e : k + 0 ≡ k = omega arith in rw e
-mapFrom-at f h k (v ∷ l) (suc j) = let e : k + suc j ≡ suc k + j = omega arith in rw e (mapFrom-at f h (suc k) l j)
+mapFrom-at f k [] j d h = h zero-le
+mapFrom-at f k (v ∷ l) zero d h = let e : k + 0 ≡ k = omega arith in rw e
+mapFrom-at f k (v ∷ l) (suc j) d h =
+    let e : k + suc j ≡ suc k + j = omega arith in rw e (mapFrom-at f (suc k) l j d (λ q. rw e at (h (omega arith))))
 
 reach-absent : (y : Item) (t : Target) (i n k : ℕ) → reach y t i n k absent ≡ absent
 unfolding reach bare
@@ -68,7 +71,46 @@ pub vcpuAt-sent : (y : Item) (t : Target) (i : ℕ) (m : Module) (j : ℕ) → v
 unfolding vcpuAt sent
 vcpuAt-sent y t i m j =
     let e : 0 + j ≡ j = omega arith in
-    rw (mapFrom-at (reach y t i (size m)) (reach-absent y t i (size m)) 0 (m .vcpus) j, e)
+    rw (mapFrom-at (reach y t i (size m)) 0 (m .vcpus) j absent (λ _. sym (reach-absent y t i (size m) (0 + j))), e)
+
+-- what is shown of the record with the item marked and of the record as it was
+pub by-reach : (y : Item) (t : Target) (i n k : ℕ) (v : Vcpu) (P : Vcpu → Type 0) → P (mark y v) → P v → P (reach y t i n k v)
+unfolding reach
+by-reach y t i n k v P marked same = pick (reached t i n k (v .phase))
+  where
+    pick : (b : Bool) → P (cond b (mark y v) v)
+    pick true = marked
+    pick false = same
+
+-- ---- the tests of a verdict
+pub needed : (a : Bool) (c : Refusal) (g : Verdict) → need a c g ≡ accept → (a ≡ true) × (g ≡ accept)
+needed true c g e = (refl, e)
+needed false c g e = clash (cc)
+
+-- what is chosen where all of them pass
+pub taken : {A : Type 0} (a b : Bool) (p q : Refusal) (g : Verdict) (w v u : A) → need a p (need b q g) ≡ accept → (g ≡ accept → v ≡ u)
+    → cond (a && b) v w ≡ u
+taken true true p q g w v u e h = h e
+taken true false p q g w v u e h = clash (cc)
+taken false b p q g w v u e h = clash (cc)
+
+pub left-alone : {A : Type 0} (a b : Bool) (p q c : Refusal) (g : Verdict) (w v : A) → need a p (need b q g) ≡ refuse c → (g ≡ refuse c → v ≡ w)
+    → cond (a && b) v w ≡ w
+left-alone true true p q c g w v e h = h e
+left-alone true false p q c g w v e h = refl
+left-alone false b p q c g w v e h = refl
+
+pub all-three : {A : Type 0} (a b c : Bool) (p q r : Refusal) (w v : A) → need a p (need b q (need c r accept)) ≡ accept → cond (a && b && c) v w ≡ v
+all-three true true true p q r w v e = refl
+all-three true true false p q r w v e = clash (cc)
+all-three true false c p q r w v e = clash (cc)
+all-three false b c p q r w v e = clash (cc)
+
+pub not-three : {A : Type 0} (a b c : Bool) (p q r d : Refusal) (w v : A) → need a p (need b q (need c r accept)) ≡ refuse d → cond (a && b && c) v w ≡ w
+not-three true true true p q r d w v e = clash (cc)
+not-three true true false p q r d w v e = refl
+not-three true false c p q r d w v e = refl
+not-three false b c p q r d w v e = refl
 
 -- ---- the step, by the verdict
 -- what is shown of a refusal and of what an accepted event gives is shown of the step
@@ -101,12 +143,10 @@ in-range m i t z h = pick (ltb i (length (m .vcpus))) refl
 
 known : (m : Module) (i : ℕ) (t : Phase → Bool) → t Left ≡ false → (c : Refusal) (g : Verdict)
     → need (ltb i (size m)) UnknownVcpu (need (t (vcpuAt m i .phase)) c g) ≡ accept → Known m i t
-known m i t z c g h = pick (ltb i (size m)) (t (vcpuAt m i .phase)) refl refl h
-  where
-    pick : (a b : Bool) → ltb i (size m) ≡ a → t (vcpuAt m i .phase) ≡ b → need a UnknownVcpu (need b c g) ≡ accept → Known m i t
-    pick true true p q e = record { below = p; phase = q; there = in-range m i t z q }
-    pick true false p q e = clash (cc)
-    pick false b p q e = clash (cc)
+known m i t z c g h =
+    let a = needed (ltb i (size m)) UnknownVcpu _ h in
+    let b = needed (t (vcpuAt m i .phase)) c g (a .1) in
+    record { below = a .0; phase = b .0; there = in-range m i t z (b .0) }
 
 -- the phase in which an act is served
 abbrev pub servedIn : Act Bytes → Phase → Bool

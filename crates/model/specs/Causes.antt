@@ -11,7 +11,7 @@ use Rattle.model.specs.declared.Kind.{Kind}
 use Rattle.model.specs.declared.Kind.the-variants as kind
 use Rattle.model.specs.declared.Module.{Module}
 use Rattle.model.specs.State.{isActive, isLeaving, isInFlight, size, vcpuAt}
-use Rattle.model.specs.Doorbell.{isVector}
+use Rattle.vector_set.specs.Sets.{isVector}
 use Rattle.model.specs.Registers.{within, kindOf}
 use Rattle.model.specs.Ipi.{icrLegal}
 use Rattle.model.specs.Requests.{nameable}

@@ -6,7 +6,8 @@ use Prim.Native.Nat.{ℕ}
 use Rattle.model.specs.declared.Item.{Item}
 use Rattle.model.specs.declared.Item.the-variants as item
 use Rattle.model.specs.declared.Refusal.{Refusal}
-use Rattle.model.specs.declared.Refusal.the-variants.{UnknownVcpu, ShortPage, NotLeaving, NothingInFlight, BadStart, NotActive, UnknownCall, BadRegister, BadParameter, RegistrationsFull, NotRegistered}
+use Rattle.model.specs.declared.Refusal.the-variants.{UnknownVcpu, ShortPage, NotLeaving, NothingInFlight, BadStart, NotActive}
+use Rattle.model.specs.declared.Refusal.the-variants.{UnknownCall, BadRegister, BadParameter, RegistrationsFull, NotRegistered}
 use Rattle.model.specs.declared.Outcome.{Outcome}
 use Rattle.model.specs.declared.Outcome.the-variants as outcome
 use Rattle.model.specs.declared.Presentation.{Presentation}

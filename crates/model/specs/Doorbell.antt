@@ -11,6 +11,7 @@ use Rattle.model.specs.declared.Item.{Item}
 use Rattle.model.specs.declared.Item.the-variants as item
 use Rattle.vector_set.specs.Bits.{one, bitAt, bits}
 use Rattle.vector_set.specs.Sets.{has, collect, empty, highest, count, isEmpty, vectorOf}
+pub use Rattle.vector_set.specs.Sets.{isVector}
 
 -- ---- bytes by their bits
 -- bit k of bytes: bit k mod 8 of byte k div 8 (4.8)
@@ -62,10 +63,6 @@ levelBit = 10
 -- the bit that makes the marks count (4.13)
 abbrev pub manyBit : ℕ
 manyBit = 14
-
--- a vector that a notice, an IPI or the page may name (4.13)
-abbrev pub isVector : ℕ → Bool
-isVector v = leb 31 v && leb v 255
 
 -- ---- what a notice admits
 -- the admitted part (a term of document 01): nothing else of a page reaches the record (4.14)

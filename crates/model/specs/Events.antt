@@ -16,8 +16,10 @@ use Rattle.model.specs.declared.Vcpu.{Vcpu}
 use Rattle.model.specs.declared.Module.{Module}
 use Rattle.model.specs.declared.Stepped.{Stepped}
 use Rattle.model.specs.declared.Entered.{Entered}
-use Rattle.model.specs.State.{isActive, isLeaving, isInFlight, size, vcpuAt, mayStart, start, withVcpu, withRegistrations, withAllowed, withIsr, withIrrLevel, withIsrLevel, withIcr, withPhase, withFlight}
-use Rattle.model.specs.Codes.{codeOf, Verdict, accept, refuse, need, Answer, nothing, presents, window, Result, done, answers, refused, resultOf, presentedResult}
+use Rattle.model.specs.State.{isActive, isLeaving, isInFlight, size, vcpuAt, mayStart, start, withVcpu, withRegistrations}
+use Rattle.model.specs.State.{withAllowed, withIsr, withIrrLevel, withIsrLevel, withIcr, withPhase, withFlight}
+use Rattle.model.specs.Codes.{codeOf, Verdict, accept, refuse, need, Answer, nothing, presents, window}
+use Rattle.model.specs.Codes.{Result, done, answers, refused, resultOf, presentedResult}
 use Rattle.model.specs.Items.{itemInFlight, flightOf, mark, unmark, markAll, unmarkAll}
 use Rattle.model.specs.Doorbell.{longEnough, Part, isLevel, inPart, admitted, items, noticedPage, handedBytes, written}
 use Rattle.model.specs.Registers.{class, ppr}

@@ -13,8 +13,8 @@ use Rattle.model.specs.declared.Vcpu.{Vcpu}
 use Rattle.model.specs.declared.Module.{Module}
 use Rattle.model.specs.State.{isActive, size, vcpuAt}
 use Rattle.model.specs.Items.{mark}
-use Rattle.model.specs.Doorbell.{isVector}
 use Rattle.vector_set.specs.Bits.{bitAt, bits}
+use Rattle.vector_set.specs.Sets.{isVector}
 
 -- ---- the fields of the ICR
 -- the vector (7.2)

@@ -17,11 +17,10 @@ use Rattle.model.specs.declared.Vcpu.{Vcpu}
 use Rattle.model.specs.State.{withAllowed, withTpr, withPhase, withFlight}
 use Rattle.model.specs.Codes.{Verdict, accept, refuse, need}
 use Rattle.model.specs.Items.{mark}
-use Rattle.model.specs.Doorbell.{isVector}
 use Rattle.model.specs.Registers.{kindOf, registerValue, ended, endedLevel}
 use Rattle.model.specs.Ipi.{icrLegal}
 use Rattle.vector_set.specs.Bits.{bitAt, bits}
-use Rattle.vector_set.specs.Sets.{insert, remove}
+use Rattle.vector_set.specs.Sets.{insert, remove, isVector}
 
 -- ---- what the numbers ask for
 abbrev pub bad : Request

@@ -23,7 +23,8 @@ use Rattle.vector_set.specs.Bits.{one}
 use Rattle.model.specs.Lists.{results, pages, struck, Alike}
 use Rattle.model.specs.Ledger.{Ledger, ledgerOf}
 use Rattle.model.specs.Events.{notice, call, entry, nonDelivery, handBack, at, Event, Out, step, next}
-use Rattle.model.specs.Cases.{sameNumbers, gives, isRefused, isIdle, isNothing, fresh2, having, record0, singleton, zeros, announcing, byte64, onPage, resultOn, level61, pending41, every, Starred}
+use Rattle.model.specs.Cases.{sameNumbers, gives, isRefused, isIdle, isNothing, fresh2, having, record0, singleton, zeros}
+use Rattle.model.specs.Cases.{announcing, byte64, onPage, resultOn, level61, pending41, every, Starred}
 
 -- ---- what the cases use
 -- n bytes b from byte i on

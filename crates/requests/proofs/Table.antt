@@ -1,16 +1,11 @@
--- A table whose entries are computed from a rule: one computation over the whole table, and the rule at each entry.
+-- A table whose entries are computed from a rule: the rule at each entry.
 -- Assumes nothing.
-use mathlib.Core.Path.{_≡_, refl, ap, _∙_}
-use mathlib.Core.List.{List, [], _∷_}
+use mathlib.Core.Path.{_≡_, ap, _∙_}
 use Prim.Native.Nat.{ℕ, zero, suc, _+_, _-_, _<_, _≤_}
 use native.Mathlib.Omega.{arith}
 use native.Mathlib.Nat.{le-of-suc-le-suc, not-suc-le-zero}
 use lib.ListN.{getD}
-
--- what the rule gives for the n numbers from k on
-abbrev pub listed : {A : Type 0} → (ℕ → A) → ℕ → ℕ → List A
-listed rule k zero = []
-listed rule k (suc n) = rule k ∷ listed rule (suc k) n
+use Rattle.requests.specs.Listed.{listed}
 
 from : {A : Type 0} (rule : ℕ → A) (d : A) (k n j : ℕ) → j < n → getD (listed rule k n) j d ≡ rule (k + j)
 from rule d k zero j h = absurd (not-suc-le-zero h)

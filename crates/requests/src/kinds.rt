@@ -1,19 +1,25 @@
 // The kind of each register, from a constant table.
 ghost use mathlib.Core.Path.{_≡_};
 ghost use Rattle.model.specs.Registers.{kindOf};
+ghost use Rattle.requests.specs.Listed.{listed};
 use model::Kind;
 
-// The kinds as the table has them: none, read, write, both.
-const N: u8 = 0;
+// The kinds by one letter, for the table.
+const N: Kind = Kind::None;
 
-const R: u8 = 1;
+const R: Kind = Kind::Read;
 
-const W: u8 = 2;
+const W: Kind = Kind::Write;
 
-const B: u8 = 3;
+const B: Kind = Kind::Both;
 
-// One kind for each register 0x800 to 0x8FF (6.1, 6.3 to 6.13).
-const KINDS: [u8; 256] = [
+// The numbers that the table covers (6.1).
+const FIRST: u32 = 0x800;
+
+const LAST: u32 = 0x8FF;
+
+// One kind for each register from the first to the last (6.1, 6.3 to 6.13).
+const KINDS: [Kind; 256] = [
     N, // 0x800
     N,
     R, // 0x802 ID
@@ -30,7 +36,7 @@ const KINDS: [u8; 256] = [
     R, // 0x80D LDR
     N, // 0x80E DFR, which x2APIC has not
     N,
-    R, // 0x810 S, to 0x817
+    R, // 0x810 ISR, to 0x817
     R,
     R,
     R,
@@ -46,7 +52,7 @@ const KINDS: [u8; 256] = [
     R,
     R,
     R,
-    R, // 0x820 P, to 0x827
+    R, // 0x820 IRR, to 0x827
     R,
     R,
     R,
@@ -272,21 +278,24 @@ const KINDS: [u8; 256] = [
     N,
 ];
 
+// The whole table. It is read through `&KINDS`: a function that names `KINDS` itself has a temporary for each entry in its
+// generated proof, whose check then takes minutes. The copy costs nothing beside a constant array that is read directly: an
+// optimised program lays either out on the stack.
+fn table() -> [Kind; 256]
+    ensures { λ t. ⌜ t ≡ listed kindOf 0x800 256 ⌝ }
+{
+    let kinds = &KINDS;
+    *kinds
+}
+
 // The kind of a register by its number; none outside the table (6.2).
 pub fn kind_of(r: u32) -> Kind
     ensures { λ k. ⌜ k ≡ kindOf r ⌝ }
 {
-    if r < 0x800 {
+    if r < FIRST || LAST < r {
         return Kind::None;
     }
-    if 0x8FF < r {
-        return Kind::None;
-    }
-    let at = (r - 0x800) as usize;
-    match KINDS[at] {
-        R => Kind::Read,
-        W => Kind::Write,
-        B => Kind::Both,
-        _ => Kind::None,
-    }
+    let at = (r - FIRST) as usize;
+    let kinds = table();
+    kinds[at]
 }

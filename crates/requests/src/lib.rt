@@ -2,12 +2,16 @@
 ghost use mathlib.Core.Path.{_≡_};
 ghost use Rattle.model.specs.Registers.{kindOf};
 ghost use Rattle.model.specs.Requests.{registration, readBy, writeBy, writeValue, nameable, permission, requestOf};
+use apic::registers;
 use model::Kind;
 use model::Local;
 use model::Refusal;
 use model::Request;
 
 pub mod kinds;
+
+// The vector that stands for the NMI in call 4 (5.17).
+const NMI: u32 = 2;
 
 fn bad() -> Request
     ensures { λ r. ⌜ r ≡ Request.Refused Refusal.BadParameter ⌝ }
@@ -45,25 +49,25 @@ fn value_of(r: u32, x: u64) -> Request
     ensures { λ q. ⌜ q ≡ writeValue r x ⌝ }
 {
     match r {
-        0x80B => {
+        registers::EOI => {
             if x == 0 {
                 return Request::Local(Local::Eoi);
             }
             bad()
         }
-        0x83F => {
-            if icr::is_vector(x) {
+        registers::SELF_IPI => {
+            if vector_set::is_vector(x) {
                 return Request::Local(Local::SelfIpi((x % 256) as u8));
             }
             bad()
         }
-        0x808 => {
+        registers::TPR => {
             if x <= 255 {
                 return Request::Local(Local::SetTpr((x % 256) as u8));
             }
             bad()
         }
-        0x830 => {
+        registers::ICR => {
             if icr::is_legal(x) {
                 return Request::Icr(x);
             }
@@ -90,14 +94,8 @@ fn write_of(r: u32, x: u64) -> Request
 fn is_nameable(ecx: u32) -> bool
     ensures { λ r. ⌜ r ≡ nameable ecx ⌝ }
 {
-    if 512 <= ecx {
-        return false;
-    }
     let v = ecx % 256;
-    if v == 2 {
-        return true;
-    }
-    31 <= v
+    (v == NMI || vector_set::is_vector(v as u64)) && ecx < 512
 }
 
 // Call 4 (5.15, 5.16).

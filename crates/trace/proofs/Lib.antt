@@ -1,5 +1,6 @@
-pub mod Scans
-pub mod Digits
 pub mod Text
+pub mod Digits
+pub mod Reading
+pub mod Cells
 pub mod Events
 pub mod ReadBack

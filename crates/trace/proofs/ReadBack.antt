@@ -9,8 +9,7 @@ use native.Mathlib.Omega.{arith}
 use lib.Dec.{ltb}
 use borrow.Author.Tests.{lt-ltb, ltb-true, ltb-false}
 use Rattle.io.specs.Digits.{glyph, digits}
-use Rattle.trace.specs.declared.Number.{Number}
-use Rattle.trace.specs.declared.Number.the-variants.{Value, Invalid}
+use Rattle.trace.specs.declared.Number.the-variants.{Value}
 use Rattle.trace.specs.Numbers.{digit, digitsFrom, digitsOf, isHex, numberOf}
 use Rattle.trace.proofs.Digits.{digit-decimal, digit-lower}
 

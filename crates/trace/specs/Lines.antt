@@ -1,144 +1,120 @@
 -- A line of a trace: the event that it is, and the page that it tells.
 -- Assumes nothing.
 use mathlib.Core.Path.{_≡_}
-use mathlib.Core.Bool.{Bool, true, false, cond, _&&_}
+use mathlib.Core.Bool.{Bool, true, false, cond}
 use mathlib.Core.List.{List, [], _∷_}
-use Prim.Native.Nat.{ℕ, suc, _≤_}
-use lib.Dec.{eqb, leb, ltb}
-use lib.ListN.{length, getD, take, drop, set, replicate}
+use Prim.Native.Nat.{ℕ, suc, _≤_, _<_}
+use lib.Dec.{eqb, ltb}
+use lib.ListN.{length, getD, drop}
 use Rattle.trace.specs.declared.Number.{Number}
 use Rattle.trace.specs.declared.Number.the-variants.{Value, Invalid}
-use Rattle.trace.specs.declared.Cell.{Cell}
-use Rattle.trace.specs.declared.Cell.the-variants.{Byte, Malformed}
+use Rattle.trace.specs.declared.Arguments.{Arguments}
 use Rattle.trace.specs.declared.Name.{Name}
 use Rattle.trace.specs.declared.Name.the-variants as name
 use Rattle.trace.specs.declared.Event.{Event}
 use Rattle.trace.specs.declared.Event.the-variants.{Nothing, Unreadable, Start, Notice, Call, Entry, NonDelivery, HandBack, State}
-use Rattle.trace.specs.Numbers.{numberOf, upTo}
-use Rattle.trace.specs.Words.{isOther, leading, words, first, rest}
+use Rattle.trace.specs.Words.{ascii, words, first, rest, same}
+use Rattle.trace.specs.Pages.{Bytes, told, garbled, fill, zeros}
 
--- ---- pages
--- a byte of a page of `long` bytes: the offset is below it, the value at most 255
-unfoldable pub cell : ℕ → Number → Number → Cell
-cell long (Value o) (Value v) = cond (ltb o long && leb v 255) (Byte o v) Malformed
-cell long (Value o) Invalid = Malformed
-cell long Invalid (Value v) = Malformed
-cell long Invalid Invalid = Malformed
-
--- `OFFSET=BYTE`: the numbers before and after the first `=`
-unfoldable pub cellOf : ℕ → List ℕ → Cell
-cellOf long w =
-    let k = leading (isOther 61) w in
-    cond (ltb k (length w)) (cell long (numberOf (take k w)) (numberOf (drop (suc k) w))) Malformed
-
--- the bytes of a page, or that a word is no byte of it
-pub data Bytes : Type 0 where
-  told : List ℕ → Bytes
-  garbled : Bytes
-
-unfoldable pub stored : Cell → (ℕ → ℕ → Bytes) → Bytes
-stored (Byte o v) f = f o v
-stored Malformed f = garbled
-
--- the page p with the bytes that the words tell; where an offset comes twice the last one counts
-unfoldable pub fill : ℕ → List (List ℕ) → List ℕ → Bytes
-fill long [] p = told p
-fill long (w ∷ ws) p = stored (cellOf long w) (λ o v. fill long ws (set p o v))
-
--- ---- what follows the name of an event
+-- ---- arguments
+-- the limits: a number of 32 bits or of 64, a flag, the length of a page
 abbrev pub max32 : ℕ
 max32 = 0xFFFF_FFFF
 
+abbrev pub max64 : ℕ
+max64 = 0xFFFF_FFFF_FFFF_FFFF
+
+abbrev pub maxFlag : ℕ
+maxFlag = 1
+
+abbrev pub maxLength : ℕ
+maxLength = 4096
+
 abbrev pub isOne : ℕ → Bool
 isOne v = eqb v 1
+
+-- an event of arguments, one for each limit, and of the words that follow them
+abbrev pub Made : List ℕ → Type 0
+Made [] = List (List ℕ) → Event
+Made (m ∷ ms) = ℕ → Made ms
 
 unfoldable pub given : Number → (ℕ → Event) → Event
 given (Value v) f = f v
 given Invalid f = Unreadable
 
+-- the event of a line whose first words are numbers up to the limits
+unfoldable pub taking : (limits : List ℕ) → List (List ℕ) → Made limits → Event
+taking [] ws f = f ws
+taking (m ∷ ms) ws f = given (first m ws) λ v. taking ms (rest ws) (f v)
+
+-- the event of the values from place k on
+unfoldable pub applied : (limits : List ℕ) → ℕ → List ℕ → Made limits → List (List ℕ) → Event
+applied [] k vs f ws = f ws
+applied (m ∷ ms) k vs f ws = applied ms (suc k) vs (f (getD vs k 0)) ws
+
+-- what reading arguments from the text, which is the end of the line s, gives: whether they are numbers up to the limits; if so the
+-- numbers, and a place from which on the other words stand
+pub record Taken (limits text s : List ℕ) (a : Arguments) : Type 0 where
+  pub next : a .next ≤ length s
+  pub unmade : a .valid ≡ false → (f : Made limits) → taking limits (words text) f ≡ Unreadable
+  pub made : a .valid ≡ true → (f : Made limits) → taking limits (words text) f ≡ applied limits 0 (a .values) f (words (drop (a .next) s))
+  pub small : a .valid ≡ true → (k : ℕ) → k < length limits → getD (a .values) k 0 ≤ getD limits k 0
+  pub rests : a .valid ≡ true → words (drop (a .next) s) ≡ drop (length limits) (words text)
+
+-- ---- what follows the name of an event
 -- no word follows
 unfoldable pub only : List (List ℕ) → Event → Event
 only [] e = e
 only (w ∷ ws) e = Unreadable
 
+-- the words that follow are bytes of the page
 unfoldable pub paged : Bytes → Event → Event
 paged (told p) e = e
 paged garbled e = Unreadable
 
-abbrev pub zeros : List ℕ
-zeros = replicate 4096 0
-
 -- `start N L`
 unfoldable pub start : List (List ℕ) → Event
-start ws =
-    given (first max32 ws) λ n.
-    given (first max32 (rest ws)) λ l.
-    only (rest (rest ws)) (Start n l)
+start ws = taking (max32 ∷ max32 ∷ []) ws λ n l us. only us (Start n l)
 
 -- `notice VCPU LENGTH [OFFSET=BYTE ...]`
 unfoldable pub notice : List (List ℕ) → Event
-notice ws =
-    given (first max32 ws) λ i.
-    given (first 4096 (rest ws)) λ long.
-    paged (fill long (rest (rest ws)) zeros) (Notice i long)
+notice ws = taking (max32 ∷ maxLength ∷ []) ws λ i long us. paged (fill long us zeros) (Notice i long)
 
 -- `call VCPU CALL ECX RDX`
 unfoldable pub call : List (List ℕ) → Event
-call ws =
-    given (first max32 ws) λ i.
-    given (first max32 (rest ws)) λ c.
-    given (first max32 (rest (rest ws))) λ ecx.
-    given (first 0xFFFF_FFFF_FFFF_FFFF (rest (rest (rest ws)))) λ rdx.
-    only (rest (rest (rest (rest ws)))) (Call i c ecx rdx)
+call ws = taking (max32 ∷ max32 ∷ max32 ∷ max64 ∷ []) ws λ i c ecx rdx us. only us (Call i c ecx rdx)
 
 -- `entry VCPU IF SHADOW BLOCKED`
 unfoldable pub entry : List (List ℕ) → Event
-entry ws =
-    given (first max32 ws) λ i.
-    given (first 1 (rest ws)) λ f.
-    given (first 1 (rest (rest ws))) λ s.
-    given (first 1 (rest (rest (rest ws)))) λ b.
-    only (rest (rest (rest (rest ws)))) (Entry i (isOne f) (isOne s) (isOne b))
+entry ws = taking (max32 ∷ maxFlag ∷ maxFlag ∷ maxFlag ∷ []) ws λ i f s b us. only us (Entry i (isOne f) (isOne s) (isOne b))
 
 -- `nondelivery VCPU`
 unfoldable pub nonDelivery : List (List ℕ) → Event
-nonDelivery ws =
-    given (first max32 ws) λ i.
-    only (rest ws) (NonDelivery i)
+nonDelivery ws = taking (max32 ∷ []) ws λ i us. only us (NonDelivery i)
 
 -- `handback VCPU IF SHADOW LENGTH [OFFSET=BYTE ...]`
 unfoldable pub handBack : List (List ℕ) → Event
 handBack ws =
-    given (first max32 ws) λ i.
-    given (first 1 (rest ws)) λ f.
-    given (first 1 (rest (rest ws))) λ s.
-    given (first 4096 (rest (rest (rest ws)))) λ long.
-    paged (fill long (rest (rest (rest (rest ws)))) zeros) (HandBack i (isOne f) (isOne s) long)
+    taking (max32 ∷ maxFlag ∷ maxFlag ∷ maxLength ∷ []) ws λ i f s long us. paged (fill long us zeros) (HandBack i (isOne f) (isOne s) long)
 
 -- ---- lines
-unfoldable pub same : List ℕ → List ℕ → Bool
-same [] [] = true
-same [] (y ∷ b) = false
-same (x ∷ a) [] = false
-same (x ∷ a) (y ∷ b) = eqb x y && same a b
+abbrev pub names : List (List ℕ × Name)
+names =
+    (ascii "start", name.Start)
+    ∷ (ascii "notice", name.Notice)
+    ∷ (ascii "call", name.Call)
+    ∷ (ascii "entry", name.Entry)
+    ∷ (ascii "nondelivery", name.NonDelivery)
+    ∷ (ascii "handback", name.HandBack)
+    ∷ (ascii "state", name.State)
+    ∷ []
 
-unfoldable pub nameOf : List ℕ → Name
-nameOf w =
-    -- start
-    cond (same w (115 ∷ 116 ∷ 97 ∷ 114 ∷ 116 ∷ [])) name.Start
-    -- notice
-    (cond (same w (110 ∷ 111 ∷ 116 ∷ 105 ∷ 99 ∷ 101 ∷ [])) name.Notice
-    -- call
-    (cond (same w (99 ∷ 97 ∷ 108 ∷ 108 ∷ [])) name.Call
-    -- entry
-    (cond (same w (101 ∷ 110 ∷ 116 ∷ 114 ∷ 121 ∷ [])) name.Entry
-    -- nondelivery
-    (cond (same w (110 ∷ 111 ∷ 110 ∷ 100 ∷ 101 ∷ 108 ∷ 105 ∷ 118 ∷ 101 ∷ 114 ∷ 121 ∷ [])) name.NonDelivery
-    -- handback
-    (cond (same w (104 ∷ 97 ∷ 110 ∷ 100 ∷ 98 ∷ 97 ∷ 99 ∷ 107 ∷ [])) name.HandBack
-    -- state
-    (cond (same w (115 ∷ 116 ∷ 97 ∷ 116 ∷ 101 ∷ [])) name.State
-    name.Unknown))))))
+unfoldable pub nameIn : List (List ℕ × Name) → List ℕ → Name
+nameIn [] w = name.Unknown
+nameIn (n ∷ ns) w = cond (same w (n .0)) (n .1) (nameIn ns w)
+
+abbrev pub nameOf : List ℕ → Name
+nameOf w = nameIn names w
 
 unfoldable pub named : Name → List (List ℕ) → Event
 named name.Start ws = start ws
@@ -171,9 +147,9 @@ abbrev pub PageIs : List (List ℕ) → Event → List ℕ → Type 0
 PageIs ws Nothing p = Unit
 PageIs ws Unreadable p = Unit
 PageIs ws (Start n l) p = Unit
-PageIs ws (Notice i long) p = (long ≤ 4096) × (fill long (rest (rest ws)) zeros ≡ told p)
+PageIs ws (Notice i long) p = (long ≤ 4096) × (fill long (drop 2 ws) zeros ≡ told p)
 PageIs ws (Call i c ecx rdx) p = Unit
 PageIs ws (Entry i f s b) p = Unit
 PageIs ws (NonDelivery i) p = Unit
-PageIs ws (HandBack i f s long) p = (long ≤ 4096) × (fill long (rest (rest (rest (rest ws)))) zeros ≡ told p)
+PageIs ws (HandBack i f s long) p = (long ≤ 4096) × (fill long (drop 4 ws) zeros ≡ told p)
 PageIs ws State p = Unit

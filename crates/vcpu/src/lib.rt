@@ -1,10 +1,10 @@
-// One record by value: its types, and what a notice and an IPI do to it.
-// Entry, non-delivery and guest calls are crates of their own. The crates above lift these steps to the module.
+// One record by value: its types, what a notice adds to it and how an item is made pending in it.
+// Entry and non-delivery, guest calls, and the pages of notices and hand-backs are crates of their own, above this one.
 use model::Outcome;
 use model::Presentation;
 use model::Vcpu;
 
-pub mod ipis;
+pub mod items;
 pub mod notices;
 pub mod records;
 
@@ -19,16 +19,15 @@ pub struct VcpuEntered {
     pub vcpu: Vcpu,
 }
 
-// The caller's record and the registration count after a call, and whether an IPI is now to be sent.
-pub struct VcpuCalled {
-    pub outcome: Outcome,
-    pub vcpu: Vcpu,
-    pub registrations: u8,
-    pub sends: bool,
+// What a call gives: its answer, or the ICR value that is now to be sent, whose answer the module has.
+pub enum Reply {
+    Gives(Outcome),
+    Sends(u64),
 }
 
-// A record after an IPI, with the bits of the vCPUs that the IPI has reached so far.
-pub struct VcpuSent {
-    pub mask: u64,
+// The caller's record and the registration count after a call.
+pub struct VcpuCalled {
+    pub reply: Reply,
     pub vcpu: Vcpu,
+    pub registrations: u8,
 }

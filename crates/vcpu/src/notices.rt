@@ -1,34 +1,13 @@
-// What a notice and an IPI add to a record.
+// What a notice adds to a record.
 ghost use mathlib.Core.Path.{_≡_};
 ghost use mathlib.Core.Bool.{_||_};
 ghost use Rattle.vector_set.specs.Sets.{union};
 ghost use Rattle.model.specs.State.{withIrr, withNmi};
 ghost use Rattle.model.specs.Doorbell.{partOf};
-ghost use Rattle.model.specs.Items.{mark};
 ghost use Rattle.model.specs.Events.{noticed};
 use model::Admitted;
-use model::Item;
 use model::Vcpu;
 use vector_set::Found;
-
-// The item is pending; a vector as edge, its level mark untouched (4.27, 7.17).
-pub fn post_item(v: Vcpu, item: Item) -> Vcpu
-    ensures { λ r. ⌜ r ≡ mark item v ⌝ }
-{
-    let mut w = v;
-    match item {
-        Item::Nmi => {
-            w.nmi = true;
-            w
-        }
-        Item::Vector(x) => {
-            let irr = v.irr;
-            let pending = vector_set::insert(irr, x);
-            w.irr = pending;
-            w
-        }
-    }
-}
 
 // The NMI mark and the edge set of what a notice admitted.
 fn add_edges(v: Vcpu, nmi: bool, edge: [u32; 8]) -> Vcpu

@@ -1,29 +1,12 @@
-// A record with one of its parts changed. An enum's field is not stored to: the record is written anew.
+// A record with one of its fields changed. A proof by the borrow checker covers no store to an enum's field: the record is written anew.
 ghost use mathlib.Core.Path.{_≡_};
 ghost use Rattle.model.specs.State.{withPhase, withFlight};
-ghost use Rattle.vcpu.specs.Records.{servedCount};
 use crate::VcpuStepped;
 use model::InFlight;
 use model::Outcome;
 use model::Phase;
 use model::Refusal;
 use model::Vcpu;
-
-// The count n that a module is answered with: 0 where n or the VMPL is out of range (2.15).
-pub fn served(n: u32, vmpl: u32) -> u32
-    ensures { λ r. ⌜ r ≡ servedCount n vmpl ⌝ }
-{
-    if 32 < n {
-        return 0;
-    }
-    if vmpl < 1 {
-        return 0;
-    }
-    if 3 < vmpl {
-        return 0;
-    }
-    n
-}
 
 fn written_anew(v: Vcpu, phase: Phase, flight: InFlight) -> Vcpu
     ensures { λ r. ⌜ r ≡ withPhase phase (withFlight flight v) ⌝ }

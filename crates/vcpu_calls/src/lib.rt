@@ -1,9 +1,8 @@
 // Guest calls on the caller's record and the registration count.
 ghost use mathlib.Core.Path.{_≡_};
-ghost use mathlib.Core.Bool.{cond, false};
+ghost use mathlib.Core.Bool.{cond};
 ghost use Prim.Native.Nat.{_-_};
 ghost use lib.Dec.{eqb};
-ghost use Rattle.vector_set.specs.Bits.{bits};
 ghost use Rattle.vector_set.specs.Sets.{insert, remove};
 ghost use Rattle.model.specs.State.{withAllowed, withTpr};
 ghost use Rattle.model.specs.Registers.{ended, endedLevel};
@@ -19,31 +18,30 @@ use model::Phase;
 use model::Refusal;
 use model::Request;
 use model::Vcpu;
+use vcpu::Reply;
 use vcpu::VcpuCalled;
-use vcpu::notices;
+use vcpu::items;
 use vcpu::records;
 use vector_set::Found;
 
 // An accepted call that sends nothing.
 fn done(value: u64, vcpu: Vcpu, registrations: u8) -> VcpuCalled
-    ensures { λ r. ⌜ r ≡ record { outcome = Outcome.Done value; vcpu = vcpu; registrations = registrations; sends = false } ⌝ }
+    ensures { λ r. ⌜ r ≡ record { reply = Reply.Gives (Outcome.Done value); vcpu = vcpu; registrations = registrations } ⌝ }
 {
     VcpuCalled {
-        outcome: Outcome::Done(value),
+        reply: Reply::Gives(Outcome::Done(value)),
         vcpu,
         registrations,
-        sends: false,
     }
 }
 
 fn refused(c: Refusal, vcpu: Vcpu, registrations: u8) -> VcpuCalled
-    ensures { λ r. ⌜ r ≡ record { outcome = Outcome.Refused c; vcpu = vcpu; registrations = registrations; sends = false } ⌝ }
+    ensures { λ r. ⌜ r ≡ record { reply = Reply.Gives (Outcome.Refused c); vcpu = vcpu; registrations = registrations } ⌝ }
 {
     VcpuCalled {
-        outcome: Outcome::Refused(c),
+        reply: Reply::Gives(Outcome::Refused(c)),
         vcpu,
         registrations,
-        sends: false,
     }
 }
 
@@ -129,16 +127,6 @@ fn permit(v: Vcpu, x: u8, allow: bool) -> Vcpu
     w
 }
 
-// The bit of a vCPU in the result of an IPI (7.20, 7.22).
-fn bit_of(id: u32) -> u64
-    ensures { λ r. ⌜ r ≡ bits (λ j. eqb j id) 0 32 ⌝ }
-{
-    if 32 <= id {
-        return 0;
-    }
-    1 << id
-}
-
 fn set_tpr(v: Vcpu, x: u8) -> Vcpu
     ensures { λ r. ⌜ r ≡ withTpr x v ⌝ }
 {
@@ -170,8 +158,8 @@ fn serve_local(v: Vcpu, id: u32, registrations: u8, o: Local) -> VcpuCalled
             done(e.value, u, registrations)
         }
         Local::SelfIpi(x) => done(
-            bit_of(id),
-            notices::post_item(w, Item::Vector(x)),
+            ipi::bit_of(id) as u64,
+            items::post_item(w, Item::Vector(x)),
             registrations,
         ),
     }
@@ -184,10 +172,9 @@ fn store_icr(v: Vcpu, registrations: u8, x: u64) -> VcpuCalled
     let mut w = records::with_flight(v, InFlight::Nothing);
     w.icr = x;
     VcpuCalled {
-        outcome: Outcome::Done(0),
+        reply: Reply::Sends(x),
         vcpu: w,
         registrations,
-        sends: true,
     }
 }
 

@@ -1,7 +1,7 @@
 -- The sets that an entry and a non-delivery give are those of the definitions.
 -- Assumes nothing.
-use mathlib.Core.Path.{_≡_, refl}
-use mathlib.Core.Bool.{Bool, true, false, _&&_, _||_}
+use mathlib.Core.Path.{_≡_, sym}
+use mathlib.Core.Bool.{true, false, or-comm, or-false, and-true, and-false}
 use mathlib.Core.List.{List}
 use Prim.Native.Nat.{ℕ}
 use lib.Dec.{eqb}
@@ -15,21 +15,10 @@ use Rattle.model.specs.Events.{gains}
 -- ---- a mark that moves with its vector
 pub gains-in : (x : ℕ) (s t : List ℕ) → has s x ≡ true → insert x t ≡ gains x s t
 unfolding insert
-gains-in x s t h = collect-ext _ _ (λ v l. rw h (go (eqb v x) (has t v)))
-  where
-    go : (a b : Bool) → (a || b) ≡ (b || (a && true))
-    go true true = refl
-    go true false = refl
-    go false true = refl
-    go false false = refl
+gains-in x s t h = collect-ext _ _ (λ v l. rw (h, and-true (eqb v x)) (or-comm (eqb v x) (has t v)))
 
 pub gains-out : (x : ℕ) (s t : List ℕ) → has s x ≡ false → Words t → t ≡ gains x s t
-gains-out x s t h w = collect-is _ t w (λ v l. rw h (go (has t v) (eqb v x)))
-  where
-    go : (a b : Bool) → a ≡ (a || (b && false))
-    go true b = refl
-    go false true = refl
-    go false false = refl
+gains-out x s t h w = collect-is _ t w (λ v l. rw (h, and-false (eqb v x)) (sym (or-false (has t v))))
 
 -- ---- a record with four of its sets and what is in flight changed
 abbrev pub moved : InFlight → Vcpu → List ℕ → List ℕ → List ℕ → List ℕ → Vcpu

@@ -36,33 +36,27 @@ fn offer_vector(v: Vcpu, ready: bool) -> Presentation
 {
     let irr = v.irr;
     let isr = v.isr;
-    let Found::Vector(x) = vector_set::highest_of(irr) else {
+    let Found::Vector(vector) = vector_set::highest_of(irr) else {
         return Presentation::Nothing;
     };
-    let p = apic::ppr(v.tpr, isr);
-    if x / 16 <= p / 16 {
+    let priority = apic::ppr(v.tpr, isr);
+    if vector / 16 <= priority / 16 {
         return Presentation::Nothing;
     }
     if ready {
-        return Presentation::Vector(x);
+        return Presentation::Vector(vector);
     }
-    Presentation::Window(x)
+    Presentation::Window(vector)
 }
 
 // What an entry offers the guest (8.6 to 8.13).
 fn offer_of(v: Vcpu, iflag: bool, shadow: bool, blocked: bool) -> Presentation
     ensures { λ r. ⌜ presentedResult r ≡ Result.answers (offer iflag shadow blocked v) ⌝ }
 {
-    if shadow {
-        return offer_vector(v, false);
-    }
-    if blocked {
-        return offer_vector(v, iflag);
-    }
-    if v.nmi {
+    if v.nmi && !shadow && !blocked {
         return Presentation::Nmi;
     }
-    offer_vector(v, iflag)
+    offer_vector(v, iflag && !shadow)
 }
 
 // The NMI is marked no more, and is in flight (8.6, 8.14).

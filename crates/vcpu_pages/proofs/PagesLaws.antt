@@ -1,55 +1,41 @@
 -- The answer to an event with a page and the step of its vCPU's record are together what the model says of the event.
 -- Assumes nothing.
-use mathlib.Core.Path.{_≡_, refl, sym, ap, _∙_}
+use mathlib.Core.Path.{_≡_, sym, ap, _∙_}
 use mathlib.Core.Bool.{Bool, true, false}
-use mathlib.Core.List.{List}
 use Prim.Native.Nat.{ℕ}
 use Rattle.vector_set.specs.Bits.{one}
 use Rattle.vector_set.proofs.Laws.{clash}
-use Rattle.model.specs.declared.Refusal.the-variants.{NotActive, NotLeaving}
 use Rattle.model.specs.declared.Vcpu.{Vcpu}
-use Rattle.model.specs.State.{isActive, isLeaving}
 use Rattle.model.specs.Doorbell.{Part, partOf}
-use Rattle.model.specs.Codes.{Verdict, accept, refuse, resultOf}
-use Rattle.model.specs.Events.{notice, handBack, vcpuVerdict, noticed, emptied, handBackResult}
+use Rattle.model.specs.Codes.{Verdict, accept, refuse, Result, resultOf, accepted}
+use Rattle.model.specs.Events.{noticed, emptied, handBackResult}
 use Rattle.vcpu.specs.Records.{VcpuOut, noticeOn, handBackOn}
 use Rattle.vcpu_pages.specs.declared.NoticeTaken.{NoticeTaken}
-use Rattle.vcpu_pages.specs.declared.HandedOver.{HandedOver}
-use Rattle.vcpu_pages.specs.Pages.{pageVerdict, TakenOut, refusedNotice, takeOn, HandedOut, handOn, takenOut, handedOut}
+use Rattle.vcpu_pages.specs.Pages.{TakenOut, refusedNotice, takeOn, takenOut, handOn}
 
--- ---- the model's verdicts are these
-pub notice-verdict : (i k : ℕ) (v : Vcpu) (p : List ℕ) → pageVerdict (isActive (v .phase)) NotActive p ≡ vcpuVerdict i k v (notice p)
-unfolding vcpuVerdict
-notice-verdict i k v p = refl
-
-pub hand-back-verdict : (i k : ℕ) (v : Vcpu) (p : List ℕ) (iF sh : Bool)
-    → pageVerdict (isLeaving (v .phase)) NotLeaving p ≡ vcpuVerdict i k v (handBack p iF sh)
-unfolding vcpuVerdict
-hand-back-verdict i k v p iF sh = refl
-
--- ---- with the record's step, they are the event's
+-- ---- with the record's step, they are the event's: by whether the answer r is a refusal
 module _ (a : Part) (v : Vcpu) (r : NoticeTaken) where
-  pub notice-refused : (g : Verdict) → takenOut r ≡ takeOn g a → r .refused ≡ true
+  pub notice-refused : (g : Verdict) → takenOut r ≡ takeOn g a → accepted (resultOf (r .outcome)) ≡ false
       → _≡_ {A = VcpuOut} (record { result = resultOf (r .outcome); vcpu = v }) (noticeOn g a v)
   unfolding takeOn refusedNotice noticeOn
-  notice-refused (refuse c) e t = ap (λ (o : TakenOut). record { result = o .result; vcpu = v }) e
-  notice-refused accept e t = clash (ap one (sym (ap (λ (o : TakenOut). o .isRefused) e) ∙ t))
+  notice-refused (refuse c) e f = ap (λ (o : TakenOut). record { result = o .result; vcpu = v }) e
+  notice-refused accept e f = clash (ap one (sym f ∙ ap (λ (o : TakenOut). accepted (o .result)) e))
 
-  pub notice-accepted : (g : Verdict) → takenOut r ≡ takeOn g a → r .refused ≡ false
+  pub notice-accepted : (g : Verdict) → takenOut r ≡ takeOn g a → accepted (resultOf (r .outcome)) ≡ true
       → _≡_ {A = VcpuOut} (record { result = resultOf (r .outcome); vcpu = noticed (partOf (r .part)) v }) (noticeOn g a v)
   unfolding takeOn refusedNotice noticeOn
-  notice-accepted (refuse c) e f = clash (ap one (sym f ∙ ap (λ (o : TakenOut). o .isRefused) e))
-  notice-accepted accept e f = ap (λ (o : TakenOut). record { result = o .result; vcpu = noticed (o .part) v }) e
+  notice-accepted (refuse c) e t = clash (ap one (sym (ap (λ (o : TakenOut). accepted (o .result)) e) ∙ t))
+  notice-accepted accept e t = ap (λ (o : TakenOut). record { result = o .result; vcpu = noticed (o .part) v }) e
 
-module _ (l : ℕ) (iF sh : Bool) (v : Vcpu) (r : HandedOver) where
-  pub hand-back-refused : (g : Verdict) → handedOut r ≡ handOn g (handBackResult l (v .tpr) iF sh) → r .refused ≡ true
-      → _≡_ {A = VcpuOut} (record { result = resultOf (r .outcome); vcpu = v }) (handBackOn g l iF sh v)
+module _ (l : ℕ) (iF sh : Bool) (v : Vcpu) (r : Result) where
+  pub hand-back-refused : (g : Verdict) → r ≡ handOn g (handBackResult l (v .tpr) iF sh) → accepted r ≡ false
+      → _≡_ {A = VcpuOut} (record { result = r; vcpu = v }) (handBackOn g l iF sh v)
   unfolding handOn handBackOn
-  hand-back-refused (refuse c) e t = ap (λ (o : HandedOut). record { result = o .result; vcpu = v }) e
-  hand-back-refused accept e t = clash (ap one (sym (ap (λ (o : HandedOut). o .isRefused) e) ∙ t))
+  hand-back-refused (refuse c) e f = ap (λ (o : Result). record { result = o; vcpu = v }) e
+  hand-back-refused accept e f = clash (ap one (sym f ∙ ap accepted e))
 
-  pub hand-back-accepted : (g : Verdict) → handedOut r ≡ handOn g (handBackResult l (v .tpr) iF sh) → r .refused ≡ false
-      → _≡_ {A = VcpuOut} (record { result = resultOf (r .outcome); vcpu = emptied v }) (handBackOn g l iF sh v)
+  pub hand-back-accepted : (g : Verdict) → r ≡ handOn g (handBackResult l (v .tpr) iF sh) → accepted r ≡ true
+      → _≡_ {A = VcpuOut} (record { result = r; vcpu = emptied v }) (handBackOn g l iF sh v)
   unfolding handOn handBackOn
-  hand-back-accepted (refuse c) e f = clash (ap one (sym f ∙ ap (λ (o : HandedOut). o .isRefused) e))
-  hand-back-accepted accept e f = ap (λ (o : HandedOut). record { result = o .result; vcpu = emptied v }) e
+  hand-back-accepted (refuse c) e t = clash (ap one (sym (ap accepted e) ∙ t))
+  hand-back-accepted accept e t = ap (λ (o : Result). record { result = o; vcpu = emptied v }) e

@@ -8,17 +8,15 @@ use Prim.Native.Nat.{ℕ}
 use types.Run.{OneOf}
 use denote.Enum.Declared.{tagOf}
 use Rattle.model.proofs.Phase as phase
-use Rattle.model.specs.declared.Admitted.{Admitted}
 use Rattle.model.specs.declared.Phase.{Phase}
 use Rattle.model.specs.declared.Phase.the-variants.{Active, Leaving, Left}
 use Rattle.model.specs.declared.Refusal.{Refusal}
 use Rattle.model.specs.declared.Refusal.the-variants.{ShortPage}
 use Rattle.model.specs.State.{isLeaving}
-use Rattle.model.specs.Doorbell.{longEnough, Part, partOf, items}
+use Rattle.model.specs.Doorbell.{longEnough, Part, items}
 use Rattle.model.specs.Codes.{codeOf, Verdict, accept, refuse, done, refused}
-use Rattle.doorbell.specs.Served.{takenPart, takenPage, Taken}
 use Rattle.vcpu.specs.Records.{pageOn}
-use Rattle.vcpu_pages.specs.Pages.{pageVerdict, TakenOut, refusedNotice, takeOn, HandedOut, handOn}
+use Rattle.vcpu_pages.specs.Pages.{pageVerdict, TakenOut, refusedNotice, takeOn, handOn}
 use Rattle.vector_set.proofs.Laws.{clash}
 
 -- a phase that is not the second
@@ -39,28 +37,24 @@ module _ (c : Refusal) (p : List ℕ) {b : Bool} where
   pub right : b ≡ true → longEnough p ≡ true → pageVerdict b c p ≡ accept
   right e s = rw (e, s)
 
--- ---- the answer and the page q after the event, by the verdict g
+-- ---- the answer and the page after the event, which is q if it is accepted, by the verdict g
 module _ {g : Verdict} (p q : List ℕ) where
   pub refuses-notice : (a : Part) (o : TakenOut) (c : Refusal) → g ≡ refuse c → o ≡ refusedNotice c → (o ≡ takeOn g a) × (p ≡ pageOn g q p)
   unfolding takeOn pageOn
   refuses-notice a o c e f = (rw e f, rw e)
 
-  pub refuses-hand-back : (n : ℕ) (c : Refusal) → g ≡ refuse c
-      → (_≡_ {A = HandedOut} (record { result = refused (codeOf c); isRefused = true }) (handOn g n)) × (p ≡ pageOn g q p)
+  pub takes-notice : (a b : Part) (n : ℕ) (r : List ℕ) → g ≡ accept → b ≡ a → n ≡ items b → r ≡ q
+      → (_≡_ {A = TakenOut} (record { result = done n; part = b }) (takeOn g a)) × (r ≡ pageOn g q p)
+  unfolding takeOn pageOn
+  takes-notice a b n r e f h k = (
+    rw e (ap (λ (x : ℕ). record { result = done x; part = b }) h ∙ ap (λ (y : Part). record { result = done (items y); part = y }) f),
+    rw e k,
+  )
+
+  pub refuses-hand-back : (n : ℕ) (c : Refusal) → g ≡ refuse c → (refused (codeOf c) ≡ handOn g n) × (p ≡ pageOn g q p)
   unfolding handOn pageOn
   refuses-hand-back n c e = (rw e, rw e)
 
-  pub hands-back : (n x : ℕ) (r : List ℕ) → g ≡ accept → x ≡ n → r ≡ q
-      → (_≡_ {A = HandedOut} (record { result = done x; isRefused = false }) (handOn g n)) × (r ≡ pageOn g q p)
+  pub hands-back : (n x : ℕ) (r : List ℕ) → g ≡ accept → x ≡ n → r ≡ q → (done x ≡ handOn g n) × (r ≡ pageOn g q p)
   unfolding handOn pageOn
-  hands-back n x r e f h = (rw e (ap (λ (y : ℕ). record { result = done y; isRefused = false }) f), rw e h)
-
-pub takes-notice : {g : Verdict} (l : ℕ) (s p q : List ℕ) (a : Admitted) (n : ℕ) → g ≡ accept → Taken l s p (partOf a) q → n ≡ items (partOf a)
-    → (_≡_ {A = TakenOut} (record { result = done n; isRefused = false; part = partOf a }) (takeOn g (takenPart l s p))) × (q ≡ pageOn g (takenPage l p) p)
-unfolding takeOn pageOn
-takes-notice l s p q a n e t f = (
-  rw e
-      (ap (λ (x : ℕ). record { result = done x; isRefused = false; part = partOf a }) f
-      ∙ ap (λ (y : Part). record { result = done (items y); isRefused = false; part = y }) (t .part)),
-  rw e (t .page),
-)
+  hands-back n x r e f h = (rw e (ap done f), rw e h)

@@ -2,18 +2,11 @@
 use model::Admitted;
 use model::Outcome;
 
-pub mod handbacks;
+pub mod hand_backs;
 pub mod notices;
 
-// The answer to a notice, whether it is refused, and what it admits.
+// The answer to a notice, and what it admits: nothing where it is refused.
 pub struct NoticeTaken {
     pub outcome: Outcome,
-    pub refused: bool,
     pub part: Admitted,
-}
-
-// The answer to a hand-back, and whether it is refused.
-pub struct HandedOver {
-    pub outcome: Outcome,
-    pub refused: bool,
 }

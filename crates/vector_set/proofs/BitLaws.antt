@@ -1,4 +1,5 @@
--- The laws of bits, at any width: `bits-bit` (the bits of what was made from bits) and `number-ext` (two numbers of n bits with the same bits are equal) serve all others.
+-- The laws of bits, at any width: `bits-bit` (the bits of what was made from bits) and `number-ext` (two numbers of n bits with the same bits are equal) serve
+-- all others.
 -- Assumes nothing.
 use mathlib.Core.Path.{_≡_, refl, sym, ap, _∙_, subst}
 use mathlib.Core.Bool.{Bool, true, false, not, _&&_, _||_}
@@ -121,12 +122,6 @@ number-ext (suc n) x y hx hy h =
     let z : bitAt x 0 ≡ bitAt y 0 = h 0 (omega arith) in
     let low : x % 2 ≡ y % 2 = eqb-one (x % 2) (y % 2) (omega arith) (omega arith) (rw (div-one x, div-one y) at z) in
     omega arith
-
--- a number of n bits is made from its bits
-pub bits-number : (n x : ℕ) → x < 2 ^ n → bits (λ b. bitAt x b) 0 n ≡ x
-bits-number n x h =
-    number-ext n (bits (λ b. bitAt x b) 0 n) x (bits-lt (λ b. bitAt x b) 0 n) h
-    (λ b l. let e : 0 + b ≡ b = omega arith in bits-bit (λ b. bitAt x b) 0 n b l ∙ ap (bitAt x) e)
 
 -- a number of n bits is `bits f k n` if its bit b is f (k + b)
 pub bits-unique : (f : ℕ → Bool) (k n x : ℕ) → x < 2 ^ n → ((b : ℕ) → b < n → bitAt x b ≡ f (k + b)) → x ≡ bits f k n

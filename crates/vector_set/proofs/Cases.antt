@@ -6,7 +6,8 @@ use mathlib.Core.List.{List, [], _∷_}
 use mathlib.Core.Option.{none, some}
 use Prim.Native.Nat.{ℕ}
 use Rattle.vector_set.specs.Bits.{bits}
-use Rattle.vector_set.specs.Sets.{has, words, collect, empty, full, insert, remove, union, difference, intersection, from, highestBelow, highest, countBelow, count, isEmpty, wordOf}
+use Rattle.vector_set.specs.Sets.{has, words, collect, empty, full, insert, remove, union, difference, intersection, from, highestBelow}
+use Rattle.vector_set.specs.Sets.{highest, countBelow, count, isEmpty, wordOf}
 
 -- {0x1E, 0x1F, 0x41}
 three : List ℕ
@@ -28,9 +29,9 @@ removed : remove 0x41 three ≡ (0xC000_0000 ∷ 0 ∷ 0 ∷ 0 ∷ 0 ∷ 0 ∷ 0
 unfolding three remove collect words bits has
 removed = refl
 
-from-31 : from 31 three ≡ (0x8000_0000 ∷ 0 ∷ 2 ∷ 0 ∷ 0 ∷ 0 ∷ 0 ∷ 0 ∷ [])
+from-lowest : from 31 three ≡ (0x8000_0000 ∷ 0 ∷ 2 ∷ 0 ∷ 0 ∷ 0 ∷ 0 ∷ 0 ∷ [])
 unfolding three from collect words bits has
-from-31 = refl
+from-lowest = refl
 
 joined : difference (union three (insert 0xFF empty)) (intersection three (insert 0x41 empty)) ≡ (0xC000_0000 ∷ 0 ∷ 0 ∷ 0 ∷ 0 ∷ 0 ∷ 0 ∷ 0x8000_0000 ∷ [])
 unfolding three insert union difference intersection empty collect words bits has

@@ -2,19 +2,20 @@
 -- Assumes nothing.
 use mathlib.Core.Path.{_≡_, refl, sym, ap, _∙_, subst}
 use mathlib.Core.Bool.{Bool, true, false, cond, not, _&&_, _||_}
-use mathlib.Core.List.{List, [], _∷_}
+use mathlib.Core.List.{List}
 use mathlib.Core.Option.{Option, none, some}
-use Prim.Native.Nat.{ℕ, zero, suc, _+_, _*_, _/_, _%_, _^_, _<_, _≤_}
+use Prim.Native.Nat.{ℕ, zero, suc, _+_, _*_, _/_, _%_, _<_, _≤_}
 use native.Mathlib.Omega.{arith}
 use native.Mathlib.Nat.{not-suc-le-zero, le-of-suc-le-suc}
-use lib.Dec.{eqb, leb, ltb}
+use lib.Dec.{eqb, leb}
 use lib.ListN.{length, getD}
 use lib.Seq.{ext-getD}
-use borrow.Author.Tests.{eqb-true, eqb-false, eq-eqb, ne-eqb}
-use Rattle.vector_set.specs.Bits.{one, bitAt, bits}
+use borrow.Author.Tests.{eqb-true, eqb-false}
+use Rattle.vector_set.specs.Bits.{bitAt, bits}
 pub use Rattle.vector_set.specs.Sets.{Words}
-pub use Rattle.vector_set.proofs.BitLaws.{clash, one-eqb, one-le, bits-at, bits-bit, bits-lt, bits-ext, number-ext, bits-number, bits-unique}
-use Rattle.vector_set.specs.Sets.{has, words, collect, empty, full, insert, remove, union, difference, intersection, from, highestBelow, highest, countBelow, count, isNone, isEmpty, wordOf}
+pub use Rattle.vector_set.proofs.BitLaws.{clash, one-eqb, one-le, bits-at, bits-bit, bits-lt, bits-ext, number-ext, bits-unique}
+use Rattle.vector_set.specs.Sets.{has, words, collect, empty, full, insert, remove, union, difference, intersection, from, highestBelow}
+use Rattle.vector_set.specs.Sets.{highest, countBelow, count, isNone, isEmpty, wordOf}
 
 pub words-at : (f : ℕ → Bool) (k n i : ℕ) → i < n → getD (words f k n) i 0 ≡ bits f (32 * (k + i)) 32
 unfolding words
@@ -79,10 +80,6 @@ unfolding collect
 collect-words f = record { eight = words-words f 0 8; small = λ i l. rw (words-at f 0 8 i l) (bits-lt f (32 * (0 + i)) 32) }
 
 -- ---- the members of each set
-or-false : (b : Bool) → (b || false) ≡ b
-or-false true = refl
-or-false false = refl
-
 pub has-empty : (v : ℕ) → v < 256 → has empty v ≡ false
 unfolding empty
 has-empty v h = has-collect (λ v. false) v h
@@ -120,10 +117,6 @@ pub words-empty : Words empty
 unfolding empty
 words-empty = collect-words (λ v. false)
 
-pub words-full : Words full
-unfolding full
-words-full = collect-words (λ v. true)
-
 pub words-insert : (x : ℕ) (s : List ℕ) → Words (insert x s)
 unfolding insert
 words-insert x s = collect-words (λ v. eqb v x || has s v)
@@ -132,29 +125,9 @@ pub words-remove : (x : ℕ) (s : List ℕ) → Words (remove x s)
 unfolding remove
 words-remove x s = collect-words (λ v. not (eqb v x) && has s v)
 
-pub words-union : (s t : List ℕ) → Words (union s t)
-unfolding union
-words-union s t = collect-words (λ v. has s v || has t v)
-
-pub words-difference : (s t : List ℕ) → Words (difference s t)
-unfolding difference
-words-difference s t = collect-words (λ v. has s v && not (has t v))
-
-pub words-intersection : (s t : List ℕ) → Words (intersection s t)
-unfolding intersection
-words-intersection s t = collect-words (λ v. has s v && has t v)
-
-pub words-from : (x : ℕ) (s : List ℕ) → Words (from x s)
-unfolding from
-words-from x s = collect-words (λ v. leb x v && has s v)
-
 -- ---- a set that is said by its members
 pub collect-is : (f : ℕ → Bool) (s : List ℕ) → Words s → ((v : ℕ) → v < 256 → has s v ≡ f v) → s ≡ collect f
 collect-is f s w h = set-ext s (collect f) w (collect-words f) (λ v l. h v l ∙ sym (has-collect f v l))
-
--- eight words with no member are the empty set
-pub empty-is : (s : List ℕ) → Words s → ((v : ℕ) → v < 256 → has s v ≡ false) → s ≡ empty
-empty-is s w h = set-ext s empty w words-empty (λ v l. h v l ∙ sym (has-empty v l))
 
 -- ---- the highest member
 below-has : (s : List ℕ) (n v : ℕ) → highestBelow s n ≡ some v → (has s v ≡ true) × (v < n)
@@ -185,16 +158,6 @@ below-none s (suc n) e = go (has s n) refl e (λ q. below-none s n q)
     go true p q ih = clash (cc)
     go false p q ih = step (λ (v : ℕ). has s v ≡ false) n p (ih q)
 
-below-max : (s : List ℕ) (n v : ℕ) → highestBelow s n ≡ some v → (w : ℕ) → w < n → v < w → has s w ≡ false
-unfolding highestBelow
-below-max s zero v e = λ w l. absurd (not-suc-le-zero l)
-below-max s (suc n) v e = go (has s n) refl e (λ q. below-max s n v q)
-  where
-    go : (b : Bool) → has s n ≡ b → cond b (some n) (highestBelow s n) ≡ some v → (highestBelow s n ≡ some v → (w : ℕ) → w < n → v < w → has s w ≡ false)
-        → (w : ℕ) → w < suc n → v < w → has s w ≡ false
-    go true p q ih = λ w l g. let d : n ≡ v = cc in let z : ⊥ = omega arith in absurd z
-    go false p q ih = step (λ (w : ℕ). v < w → has s w ≡ false) n (λ g. p) (ih q)
-
 below-is : (s : List ℕ) (n v : ℕ) → v < n → has s v ≡ true → ((w : ℕ) → w < n → v < w → has s w ≡ false) → highestBelow s n ≡ some v
 unfolding highestBelow
 below-is s zero v l p h = absurd (not-suc-le-zero l)
@@ -212,23 +175,10 @@ unfolding highestBelow
 below-no s zero h = refl
 below-no s (suc n) h = let t : has s n ≡ false = h n (omega arith) in rw t (below-no s n (λ v l. h v (omega arith)))
 
-below-ext : (s t : List ℕ) (n : ℕ) → ((v : ℕ) → v < n → has s v ≡ has t v) → highestBelow s n ≡ highestBelow t n
-unfolding highestBelow
-below-ext s t zero h = refl
-below-ext s t (suc n) h =
-    let e : has s n ≡ has t n = h n (omega arith) in
-    let r = below-ext s t n (λ v l. h v (omega arith)) in
-    rw (e, r)
-
 -- the highest is a member
 pub highest-has : (s : List ℕ) (v : ℕ) → highest s ≡ some v → (has s v ≡ true) × (v < 256)
 unfolding highest
 highest-has s v e = below-has s 256 v e
-
--- none above it is
-pub highest-max : (s : List ℕ) (v : ℕ) → highest s ≡ some v → (w : ℕ) → w < 256 → v < w → has s w ≡ false
-unfolding highest
-highest-max s v e = below-max s 256 v e
 
 pub highest-none : (s : List ℕ) → highest s ≡ none → (v : ℕ) → v < 256 → has s v ≡ false
 unfolding highest
@@ -243,13 +193,6 @@ pub highest-no : (s : List ℕ) → ((v : ℕ) → v < 256 → has s v ≡ false
 unfolding highest
 highest-no s h = below-no s 256 h
 
-pub highest-ext : (s t : List ℕ) → ((v : ℕ) → v < 256 → has s v ≡ has t v) → highest s ≡ highest t
-unfolding highest
-highest-ext s t h = below-ext s t 256 h
-
-pub highest-empty : highest empty ≡ none
-highest-empty = highest-no empty has-empty
-
 -- ---- no member
 pub isEmpty-has : (s : List ℕ) → isEmpty s ≡ true → (v : ℕ) → v < 256 → has s v ≡ false
 unfolding isEmpty
@@ -259,32 +202,7 @@ isEmpty-has s e = go (highest s) refl e
     go none p q = highest-none s p
     go (some w) p q = clash (cc)
 
-pub isEmpty-no : (s : List ℕ) → ((v : ℕ) → v < 256 → has s v ≡ false) → isEmpty s ≡ true
-unfolding isEmpty
-isEmpty-no s h = rw (highest-no s h)
-
-pub isEmpty-member : (s : List ℕ) (v : ℕ) → v < 256 → has s v ≡ true → isEmpty s ≡ false
-unfolding isEmpty
-isEmpty-member s v l p = go (highest s) refl
-  where
-    go : (o : Option ℕ) → highest s ≡ o → isNone o ≡ false
-    go none q = let f = highest-none s q v l in clash (cc)
-    go (some w) q = refl
-
 -- ---- the number of members
--- members counted in two sets are counted in a third
-below-sum : (s t u : List ℕ) (n : ℕ) → ((v : ℕ) → v < n → one (has s v) + one (has t v) ≡ one (has u v)) → countBelow s n + countBelow t n ≡ countBelow u n
-unfolding countBelow
-below-sum s t u zero h = refl
-below-sum s t u (suc n) h =
-    let e = h n (omega arith) in
-    let r = below-sum s t u n (λ v l. h v (omega arith)) in
-    omega arith
-
-pub count-sum : (s t u : List ℕ) → ((v : ℕ) → v < 256 → one (has s v) + one (has t v) ≡ one (has u v)) → count s + count t ≡ count u
-unfolding count
-count-sum s t u h = below-sum s t u 256 h
-
 pub below-le : (s : List ℕ) (n : ℕ) → countBelow s n ≤ n
 unfolding countBelow
 below-le s zero = omega arith
@@ -293,86 +211,3 @@ below-le s (suc n) = let a = below-le s n in let b = one-le (has s n) in omega a
 pub count-le : (s : List ℕ) → count s ≤ 256
 unfolding count
 count-le s = below-le s 256
-
-below-none-count : (s : List ℕ) (n : ℕ) → ((v : ℕ) → v < n → has s v ≡ false) → countBelow s n ≡ 0
-unfolding countBelow
-below-none-count s zero h = refl
-below-none-count s (suc n) h =
-    let e : has s n ≡ false = h n (omega arith) in
-    rw (e, below-none-count s n (λ v l. h v (omega arith)))
-
-pub count-no : (s : List ℕ) → ((v : ℕ) → v < 256 → has s v ≡ false) → count s ≡ 0
-unfolding count
-count-no s h = below-none-count s 256 h
-
-pub count-empty : count empty ≡ 0
-count-empty = count-no empty has-empty
-
-pub count-ext : (s t : List ℕ) → ((v : ℕ) → v < 256 → has s v ≡ has t v) → count s ≡ count t
-count-ext s t h =
-    let e : count s + count empty ≡ count t = count-sum s empty t (λ v l. let a = h v l in let b = has-empty v l in rw (a, b) (omega arith)) in
-    omega (arith, count-empty)
-
--- a single member counts once
-below-single : (s : List ℕ) (x n : ℕ) → x < n → has s x ≡ true → ((v : ℕ) → v < n → (v ≡ x → ⊥) → has s v ≡ false) → countBelow s n ≡ 1
-unfolding countBelow
-below-single s x zero l p h = absurd (not-suc-le-zero l)
-below-single s x (suc n) l p h = go (eqb x n) refl (λ m. below-single s x n m p (λ v k. h v (omega arith)))
-  where
-    go : (b : Bool) → eqb x n ≡ b → (x < n → countBelow s n ≡ 1) → one (has s n) + countBelow s n ≡ 1
-    go true e ih =
-        let d : x ≡ n = eqb-true x n e in
-        let t : has s n ≡ true = rw (← d) p in
-        let z : countBelow s n ≡ 0 = below-none-count s n (λ v k. h v (omega arith) (λ (q : v ≡ x). omega arith)) in
-        rw (t, z)
-    go false e ih =
-        let d : x ≡ n → ⊥ = eqb-false x n e in
-        let t : has s n ≡ false = h n (omega arith) (λ (q : n ≡ x). omega arith) in
-        rw (t, ih (omega arith))
-
-pub count-single : (s : List ℕ) (x : ℕ) → x < 256 → has s x ≡ true → ((v : ℕ) → v < 256 → (v ≡ x → ⊥) → has s v ≡ false) → count s ≡ 1
-unfolding count
-count-single s x l p h = below-single s x 256 l p h
-
--- a new member counts once more
-pub count-insert : (x : ℕ) (s : List ℕ) → x < 256 → has s x ≡ false → count (insert x s) ≡ count s + 1
-count-insert x s l p = sym (count-sum s (insert x empty) (insert x s) sum) ∙ ap (λ (n : ℕ). count s + n) single
-  where
-    member : (v : ℕ) → v < 256 → has (insert x empty) v ≡ eqb v x
-    member v k = has-insert x empty v k ∙ rw (has-empty v k) (or-false (eqb v x))
-
-    single : count (insert x empty) ≡ 1
-    single =
-        count-single (insert x empty) x l (member x l ∙ eq-eqb x x refl)
-        (λ v k d. member v k ∙ ne-eqb v x d)
-
-    sum : (v : ℕ) → v < 256 → one (has s v) + one (has (insert x empty) v) ≡ one (has (insert x s) v)
-    sum v k = rw (member v k, has-insert x s v k) (go (eqb v x) refl)
-      where
-        go : (b : Bool) → eqb v x ≡ b → one (has s v) + one b ≡ one (b || has s v)
-        go true e = let d : v ≡ x = eqb-true v x e in rw (d, p)
-        go false e = omega arith
-
--- a member taken out counts once less
-pub count-remove : (x : ℕ) (s : List ℕ) → x < 256 → has s x ≡ true → count (remove x s) + 1 ≡ count s
-count-remove x s l p = sym (count-insert x (remove x s) l out) ∙ count-ext (insert x (remove x s)) s same
-  where
-    out : has (remove x s) x ≡ false
-    out = has-remove x s x l ∙ rw (eq-eqb x x refl)
-
-    same : (v : ℕ) → v < 256 → has (insert x (remove x s)) v ≡ has s v
-    same v k = rw (has-insert x (remove x s) v k, has-remove x s v k) (go (eqb v x) refl)
-      where
-        go : (b : Bool) → eqb v x ≡ b → (b || (not b && has s v)) ≡ has s v
-        go true e = let d : v ≡ x = eqb-true v x e in rw (d, p)
-        go false e = refl
-
--- the members of two sets that share none
-pub count-union : (s t : List ℕ) → ((v : ℕ) → v < 256 → has s v ≡ true → has t v ≡ false) → count (union s t) ≡ count s + count t
-count-union s t h = sym (count-sum s t (union s t) (λ v l. rw (has-union s t v l) (go (has s v) (has t v) (h v l))))
-  where
-    go : (a b : Bool) → (a ≡ true → b ≡ false) → one a + one b ≡ one (a || b)
-    go true true d = let e = d refl in clash (cc)
-    go true false d = refl
-    go false true d = refl
-    go false false d = refl

@@ -1,15 +1,15 @@
 -- A set by its eight words: what code that works on whole words gives, as sets of vectors.
 -- Assumes nothing.
 use mathlib.Core.Path.{_≡_, refl, sym, ap, ap₂, _∙_, subst}
-use mathlib.Core.Bool.{Bool, true, false, not, _&&_, _||_}
+use mathlib.Core.Bool.{Bool, true, false, not, _&&_, _||_, and-comm, or-comm}
 use mathlib.Core.List.{List, [], _∷_, map, map-id}
-use mathlib.Core.Option.{Option, none, some}
+use mathlib.Core.Option.{some}
 use Prim.Native.Nat.{ℕ, zero, suc, _+_, _-_, _*_, _/_, _%_, _^_, _<_, _≤_}
 use native.Mathlib.Omega.{arith}
 use native.Mathlib.Nat.{mod-one, mod-lt, mod-eq-of-lt}
-use lib.Dec.{eqb, leb, ltb}
+use lib.Dec.{T as Holds, eqb, leb, ltb, lit<}
 use lib.Bits.{bitAnd, bitOr, and-lt, or-lt}
-use lib.ListN.{length, getD, set, length-set}
+use lib.ListN.{getD, set, length-set}
 use lib.Seq.{ext-getD, getD-set-same, getD-set-other}
 use lib.Pow.{pow-pos, pow-lt, shl-exact, mod-pow-add, ones-sub-lt}
 use lib.Count.{ones, ones-cat, leadingZeros, leading-top}
@@ -33,6 +33,10 @@ array-words s vs p = record { eight = p .1 .0 .1; small = λ i l. elem-fits w32 
 -- the same where the array is a field of a struct
 pub field-words : (s : List ℕ) (vs : List Val) → Is (Array (UInt w32) 8) (map (λ (x : ℕ). x) s) vs → Words s
 field-words s vs p = array-words s vs (subst (λ (xs : List ℕ). Is (Array (UInt w32) 8) xs vs) (map-id s) p)
+
+-- a constant index is below 8, as code asks that reads words one by one: `at tt`
+pub at : {A : Type 0} {k : ℕ} → Holds (ltb k 8) → A → k < 8
+at t c = lit< t
 
 -- ---- eight words written out
 -- g k, g (k + 1) and so on, n of them
@@ -95,18 +99,6 @@ word-changed o keep s v x ws lv lx h =
 pub one-shl : (b : ℕ) → b < 32 → (1 * 2 ^ b) % 2 ^ 32 ≡ 2 ^ b
 one-shl b l = shl-exact {a = 1} 1 b 32 (omega arith) (omega arith) ∙ omega arith
 
-or-swap : (p q : Bool) → (p || q) ≡ (q || p)
-or-swap true true = refl
-or-swap true false = refl
-or-swap false true = refl
-or-swap false false = refl
-
-and-swap : (p q : Bool) → (p && q) ≡ (q && p)
-and-swap true true = refl
-and-swap true false = refl
-and-swap false true = refl
-and-swap false false = refl
-
 -- ---- what the functions compute
 pub insert-word : (s : List ℕ) (v : ℕ) → Words s → v < 256 → set s (v / 32) (bitOr (getD s (v / 32) 0) ((1 * 2 ^ (v % 32)) % 2 ^ 32)) ≡ insert v s
 unfolding insert
@@ -116,9 +108,10 @@ insert-word s v ws l =
     rw (one-shl (v % 32) m)
     (word-changed (λ p q. p || q) (λ q. refl) s v (bitOr x (2 ^ (v % 32))) ws l
     (or-lt 32 x (2 ^ (v % 32)) (ws .small (v / 32) (omega arith)) (pow-lt m))
-    (λ b r. bit-or x (2 ^ (v % 32)) b ∙ ap (λ (t : Bool). bitAt x b || t) (bit-pow (v % 32) b) ∙ or-swap (bitAt x b) (eqb b (v % 32))))
+    (λ b r. bit-or x (2 ^ (v % 32)) b ∙ ap (λ (t : Bool). bitAt x b || t) (bit-pow (v % 32) b) ∙ or-comm (bitAt x b) (eqb b (v % 32))))
 
-pub remove-word : (s : List ℕ) (v : ℕ) → Words s → v < 256 → set s (v / 32) (bitAnd (getD s (v / 32) 0) ((2 ^ 32 - 1) - (1 * 2 ^ (v % 32)) % 2 ^ 32)) ≡ remove v s
+pub remove-word : (s : List ℕ) (v : ℕ) → Words s → v < 256
+    → set s (v / 32) (bitAnd (getD s (v / 32) 0) ((2 ^ 32 - 1) - (1 * 2 ^ (v % 32)) % 2 ^ 32)) ≡ remove v s
 unfolding remove
 remove-word s v ws l =
     let m : v % 32 < 32 = omega arith in
@@ -129,7 +122,7 @@ remove-word s v ws l =
     (and-lt 32 x n (ws .small (v / 32) (omega arith)) (ones-sub-lt 32 (2 ^ (v % 32))))
     (λ b r. bit-and x n b
     ∙ ap (λ (t : Bool). bitAt x b && t) (bit-not 32 (2 ^ (v % 32)) b (pow-lt m) r ∙ ap not (bit-pow (v % 32) b))
-    ∙ and-swap (bitAt x b) (not (eqb b (v % 32)))))
+    ∙ and-comm (bitAt x b) (not (eqb b (v % 32)))))
 
 pub union-words : (s t : List ℕ) → Words s → Words t → upto (λ k. bitOr (getD s k 0) (getD t k 0)) 0 8 ≡ union s t
 unfolding union
@@ -147,15 +140,15 @@ difference-words =
     (λ x y b hx hy r. bit-and x ((2 ^ 32 - 1) - y) b ∙ ap (λ (t : Bool). bitAt x b && t) (bit-not 32 y b hy r))
 
 -- bit 31 of the lowest word and all of the others
-abbrev pub from31 : List ℕ → ℕ → ℕ
-from31 s zero = bitAnd (getD s 0 0) 0x8000_0000
-from31 s (suc k) = getD s (suc k) 0
+abbrev pub fromLowest : List ℕ → ℕ → ℕ
+fromLowest s zero = bitAnd (getD s 0 0) 0x8000_0000
+fromLowest s (suc k) = getD s (suc k) 0
 
-pub from-31-words : (s : List ℕ) → Words s → upto (from31 s) 0 8 ≡ from 31 s
+pub from-lowest-words : (s : List ℕ) → Words s → upto (fromLowest s) 0 8 ≡ from 31 s
 unfolding from
-from-31-words s ws = wordwise (from31 s) (λ v. leb 31 v && has s v) small bit
+from-lowest-words s ws = wordwise (fromLowest s) (λ v. leb 31 v && has s v) small bit
   where
-    small : (k : ℕ) → k < 8 → from31 s k < 2 ^ 32
+    small : (k : ℕ) → k < 8 → fromLowest s k < 2 ^ 32
     small zero l = and-lt 32 (getD s 0 0) 0x8000_0000 (ws .small 0 l) (omega arith)
     small (suc k) l = ws .small (suc k) l
 
@@ -166,11 +159,11 @@ from-31-words s ws = wordwise (from31 s) (λ v. leb 31 v && has s v) small bit
         go true e = let d : b ≡ 31 = eqb-true b 31 e in sym (le-leb 31 (32 * 0 + b) (omega arith))
         go false e = let d : b ≡ 31 → ⊥ = eqb-false b 31 e in sym (lt-leb 31 (32 * 0 + b) (omega arith))
 
-    bit : (k b : ℕ) → k < 8 → b < 32 → bitAt (from31 s k) b ≡ (leb 31 (32 * k + b) && has s (32 * k + b))
+    bit : (k b : ℕ) → k < 8 → b < 32 → bitAt (fromLowest s k) b ≡ (leb 31 (32 * k + b) && has s (32 * k + b))
     bit zero b l r =
         bit-and (getD s 0 0) (2 ^ 31) b
         ∙ ap₂ (λ (p q : Bool). p && q) (sym (has-word s 0 b r)) (bit-pow 31 b ∙ last b r)
-        ∙ and-swap (has s (32 * 0 + b)) (leb 31 (32 * 0 + b))
+        ∙ and-comm (has s (32 * 0 + b)) (leb 31 (32 * 0 + b))
     bit (suc k) b l r = sym (has-word s (suc k) b r) ∙ sym (rw (le-leb 31 (32 * suc k + b) (omega arith)))
 
 -- ---- the highest member by words
@@ -180,8 +173,11 @@ pub highest-word : (s : List ℕ) (k : ℕ) → Words s → k < 8 → (getD s k 
 highest-word s k ws l ne above =
     let t = leading-top 32 (getD s k 0) (omega arith) (ws .small k l) in
     let e : leadingZeros 32 (getD s k 0) + suc (t .0) ≡ 32 = t .1 in
-    let d : 31 - leadingZeros 32 (getD s k 0) ≡ t .0 = omega arith in
-    (omega arith, rw d (highest-is s (32 * k + t .0) (omega arith) (has-word s k (t .0) (omega arith) ∙ bit-top (t .0) (getD s k 0) (t .2) (t .3)) (none-above (t .0) (t .3))))
+    let d : 31 - leadingZeros 32 (getD s k 0) ≡ t .0 = omega arith in (
+      omega arith,
+      rw d (highest-is s (32 * k + t .0) (omega arith) (has-word s k (t .0) (omega arith) ∙ bit-top (t .0) (getD s k 0) (t .2) (t .3))
+          (none-above (t .0) (t .3))),
+    )
   where
     none-above : (j : ℕ) → getD s k 0 < 2 ^ suc j → (w : ℕ) → w < 256 → 32 * k + j < w → has s w ≡ false
     none-above j h w lw g = go (ltb w (32 * suc k)) refl
@@ -223,7 +219,8 @@ count-part s k (suc n) l =
     let o : one (has s (32 * k + n)) ≡ x / 2 ^ n % 2 = ap one (has-word s k n (omega arith)) ∙ bit-number x n in
     let d : x % 2 ^ suc n ≡ x / 2 ^ n % 2 * 2 ^ n + x % 2 ^ n = ap (λ (j : ℕ). x % 2 ^ j) (omega arith) ∙ mod-pow-add x 1 n in
     let c : ones (x % 2 ^ suc n) ≡ x / 2 ^ n % 2 + ones (x % 2 ^ n) =
-    ap ones d ∙ ones-cat n (x / 2 ^ n % 2) (x % 2 ^ n) (mod-lt x (pow-pos n)) ∙ ap (λ (y : ℕ). y + ones (x % 2 ^ n)) (ones-digit (x / 2 ^ n % 2) (omega arith)) in
+    ap ones d ∙ ones-cat n (x / 2 ^ n % 2) (x % 2 ^ n) (mod-lt x (pow-pos n))
+    ∙ ap (λ (y : ℕ). y + ones (x % 2 ^ n)) (ones-digit (x / 2 ^ n % 2) (omega arith)) in
     let r = count-part s k n (omega arith) in
     ap (countBelow s) e ∙ omega arith
 

@@ -6,7 +6,7 @@ use mathlib.Core.Bool.{Bool, true, false, cond, not, _&&_, _||_}
 use mathlib.Core.List.{List, [], _∷_}
 use mathlib.Core.Option.{Option, none, some}
 use Prim.Native.Nat.{ℕ, zero, suc, _+_, _*_, _/_, _%_, _^_, _<_}
-use lib.Dec.{eqb, leb, ltb}
+use lib.Dec.{eqb, leb}
 use lib.ListN.{length, getD}
 use Rattle.vector_set.specs.declared.Found.{Found}
 use Rattle.vector_set.specs.declared.Found.the-variants.{Vector, Nothing}
@@ -45,6 +45,10 @@ difference s t = collect (λ v. has s v && not (has t v))
 
 unfoldable pub intersection : List ℕ → List ℕ → List ℕ
 intersection s t = collect (λ v. has s v && has t v)
+
+-- a vector that a notice, an IPI or the page may name (4.13, 7.9)
+abbrev pub isVector : ℕ → Bool
+isVector v = leb 31 v && leb v 255
 
 -- the members from x on
 unfoldable pub from : ℕ → List ℕ → List ℕ

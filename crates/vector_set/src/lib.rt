@@ -1,6 +1,10 @@
 // Sets of vectors 0 to 255 by value: eight words of 32 bits, the lowest vectors first.
 ghost use mathlib.Core.Path.{_≡_};
-ghost use Rattle.vector_set.specs.Sets.{has, empty, insert, remove, union, difference, intersection, from, highest, vectorOf, count, isEmpty};
+ghost use Rattle.vector_set.specs.Sets.{has, empty, insert, remove, union, difference, intersection, isVector, from};
+ghost use Rattle.vector_set.specs.Sets.{highest, vectorOf, count, isEmpty};
+
+// The lowest vector that a notice, an IPI or the page may name (4.13, 7.9).
+pub const LOWEST: u8 = 31;
 
 // What a search of a set finds.
 pub enum Found {
@@ -87,8 +91,15 @@ pub fn intersection(a: [u32; 8], b: [u32; 8]) -> [u32; 8]
     ]
 }
 
-// The members 31 to 255.
-pub fn from_31(s: [u32; 8]) -> [u32; 8]
+// A vector that may be sent or admitted: LOWEST to 255 (4.13, 7.9).
+pub fn is_vector(v: u64) -> bool
+    ensures { λ r. ⌜ r ≡ isVector v ⌝ }
+{
+    LOWEST as u64 <= v && v <= 255
+}
+
+// The members that are vectors to send or admit: of the first word LOWEST alone, its highest bit.
+pub fn from_lowest(s: [u32; 8]) -> [u32; 8]
     ensures { λ r. ⌜ r ≡ from 31 s ⌝ }
 {
     [s[0] & 0x8000_0000, s[1], s[2], s[3], s[4], s[5], s[6], s[7]]
@@ -109,14 +120,20 @@ pub fn highest_of(s: [u32; 8]) -> Found
     Found::Nothing
 }
 
+// Most words of a set are empty, and a population count costs many instructions where the machine has none: empty words are not counted.
+// Two words are tested at once, which takes half the tests; a test of the first word alone the compiler drops again.
 pub fn count_of(s: [u32; 8]) -> u32
     ensures { λ r. ⌜ r ≡ count s ⌝ }
 {
     let mut n: u32 = 0;
     let mut k: usize = 0;
     while k < 8 {
-        n += u32::count_ones(s[k]);
-        k += 1;
+        let low = s[k];
+        let high = s[k + 1];
+        if low | high != 0 {
+            n += u32::count_ones(low) + u32::count_ones(high);
+        }
+        k += 2;
     }
     n
 }

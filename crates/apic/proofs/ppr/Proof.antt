@@ -16,20 +16,16 @@ returns c =
 returns-2 : tie.Need-returns-2
 unfolding pprOf
 returns-2 c =
-    rw (
-      ← c .before .before .before .before .highest-of .ensures,
-      c .before .before .s .given .1,
-      le-leb _ _ (c .if1 .taken),
-    )
+    let b = c .before .before in
+    let t = b .before .before .before .args .tpr in
+    rw (← b .before .before .highest-of .ensures, b .s .given .1, le-leb _ (t / 16) (c .if1 .taken))
 
 returns-3 : tie.Need-returns-3
 unfolding pprOf
 returns-3 c =
-    rw (
-      ← c .before .before .before .before .highest-of .ensures,
-      c .before .before .s .given .1,
-      lt-leb _ _ (c .if1 .left),
-    )
+    let b = c .before .before in
+    let t = b .before .before .before .args .tpr in
+    rw (← b .before .before .highest-of .ensures, b .s .given .1, lt-leb _ (t / 16) (c .if1 .left))
 
 pub ppr-spec : {M : Type 1} → statement M
 ppr-spec =

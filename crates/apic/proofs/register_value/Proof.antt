@@ -1,4 +1,5 @@
--- `apic::register_value` meets its contract: at a single number the definition computes; in a range and outside all of them its tests are settled by the number's bounds.
+-- `apic::register_value` meets its contract: at a single number the definition computes; in a range and outside all of them its tests are settled by the
+-- number's bounds.
 -- Assumes nothing.
 use mathlib.Core.Path.{_≡_, sym, ap, _∙_}
 use mathlib.Core.Bool.{cond}

@@ -25,4 +25,4 @@ returns c = omega arith
 pub items-of-spec : {M : Type 1} → statement M
 items-of-spec =
     tie.close
-    (tie.spec (λ c κs. search needs) (λ c κs. search needs) add-result (λ c κs. search needs) add-result-2 returns)
+    (tie.spec (λ c. search needs) (λ c κs. search needs) add-result (λ c κs. search needs) add-result-2 returns)

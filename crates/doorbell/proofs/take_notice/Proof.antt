@@ -1,4 +1,4 @@
--- `doorbell::take_notice` meets its contract: unserved, unannounced, and announced, where the page is that of `page-is`. Assumes nothing.
+-- `doorbell::take_notice` meets its contract: unannounced, or announced, where the page is that of `page-is`. Assumes nothing.
 use mathlib.Core.Path.{_≡_, sym, ap, _∙_}
 use mathlib.Core.List.{List}
 use Prim.Native.Nat.{ℕ, _+_, _*_, _-_, _^_, _<_, _≤_}
@@ -8,15 +8,14 @@ use lib.Bits.{bitAnd}
 use Rattle.model.specs.Doorbell.{bitOf, manyBit, descriptor, admits, clearsBit, clears}
 use Rattle.doorbell.proofs.Bytes.{mask-clear, mask-set, spliced}
 use Rattle.doorbell.specs.Clear.{clearing}
-use Rattle.doorbell.proofs.Notice.{announces-is, mark-is, page-is}
-use Rattle.doorbell.proofs.ServedLaws.{served, short, too-low, too-high, unserved, unannounced, announced}
+use Rattle.doorbell.proofs.Notice.{announces-is, mark-is, page-is, unannounced, announced}
 use borrow.Author.Needs.{needs}
 use Rattle.doorbell.proofs.take_notice.Statement.{statement}
 use Rattle.doorbell.proofs.take_notice.Tie as tie
 
-part : (l : ℕ) (p : List ℕ) {k : ℕ} → k ≡ 32 → take k (drop (64 * l) p) ≡ descriptor l p
+is-descriptor : (l : ℕ) (p : List ℕ) {k : ℕ} → k ≡ 32 → take k (drop (64 * l) p) ≡ descriptor l p
 unfolding descriptor
-part l p e = rw e
+is-descriptor l p e = rw e
 
 finish : (l : ℕ) (p ys : List ℕ) {k m : ℕ} → k ≡ 32 → m ≡ 2 ^ (l - 1) → 1 ≤ l → l ≤ 3 → 256 ≤ length p → ((j : ℕ) → getD p j 0 < 256)
     → ys ≡ clearing (clearsBit (bitOf (take k (drop (64 * l) p)) manyBit)) (take k (drop (64 * l) p))
@@ -27,56 +26,37 @@ finish l p ys e f low high long small y =
 
 returns : tie.Need-returns
 returns c =
-    let start = c .before .before .before in
-    unserved (start .args .vmpl) (start .args .allowed) (start .args .page .now) (short (start .args .vmpl) (start .args .page .now) (c .before .if1 .taken)) (c .nothing .ensures)
+    let start = c .before .before .before .before in
+    let l = start .args .vmpl in
+    let p = start .args .page .now in
+    let m : bitAnd (getD p 3 0) (2 ^ (l - 1)) ≡ 0 = ap (bitAnd (getD p 3 0)) (sym (mark-is l (start .pre .2))) ∙ c .before .if1 .taken in
+    unannounced l (start .args .allowed) p (announces-is l p (start .pre .1) (start .pre .2) ∙ mask-clear (l - 1) (getD p 3 0) m) (c .nothing .ensures)
 
 returns-2 : tie.Need-returns-2
 returns-2 c =
-    let start = c .before .before .before .before in
-    unserved (start .args .vmpl) (start .args .allowed) (start .args .page .now) (too-low (start .args .vmpl) (start .args .page .now) (c .before .if2 .taken)) (c .nothing2 .ensures)
-
-returns-3 : tie.Need-returns-3
-returns-3 c =
-    let start = c .before .before .before .before .before in
-    unserved (start .args .vmpl) (start .args .allowed) (start .args .page .now) (too-high (start .args .vmpl) (start .args .page .now) (c .before .if3 .taken)) (c .nothing3 .ensures)
-
-returns-4 : tie.Need-returns-4
-returns-4 c =
-    let start = c .before .before .before .before .before .before .before in
+    let fork = c .before .before .before .before .before .before .before in
+    let start = fork .before .before .before in
     let l = start .args .vmpl in
     let p = start .args .page .now in
-    let m : bitAnd (getD p 3 0) (2 ^ (l - 1)) ≡ 0 = ap (bitAnd (getD p 3 0)) (sym (mark-is l (omega arith))) ∙ c .before .if4 .taken in
-    unannounced (start .args .vmpl) (start .args .allowed) (start .args .page .now) (served l p (omega arith) (omega arith) (omega arith))
-    (announces-is l p (omega arith) (omega arith) ∙ mask-clear (l - 1) (getD p 3 0) m) (c .nothing4 .ensures)
-
-returns-5 : tie.Need-returns-5
-returns-5 c =
-    let start = c .before .before .before .before .before .before .before .before .before .before .before .before .before in
-    let l = start .args .vmpl in
-    let p = start .args .page .now in
+    let low = start .pre .1 in
+    let high = start .pre .2 in
     let k : 64 * l + 32 - 64 * l ≡ 32 = omega arith in
-    let m : bitAnd (getD p 3 0) (2 ^ (l - 1)) ≡ 0 → ⊥ = λ e. c .before .before .before .before .before .before .before .if4 .left (ap (bitAnd (getD p 3 0)) (mark-is l (omega arith)) ∙ e) in
-    announced (start .args .vmpl) (start .args .allowed) (start .args .page .now) (served l p (omega arith) (omega arith) (omega arith))
-    (announces-is l p (omega arith) (omega arith) ∙ mask-set (l - 1) (getD p 3 0) m)
-    (c .before .before .before .before .read-descriptor .ensures ∙ ap (admits (start .args .allowed)) (part l p k))
-    (finish l p (c .before .before .clear-descriptor .last .0) k (mark-is l (omega arith)) (omega arith) (omega arith) (omega arith)
-    (λ j. omega (arith, c .before .before .before .before .before .before .before .before .before .before .before .before .slice-known .given j)) (c .before .before .clear-descriptor .ensures))
+    let m : bitAnd (getD p 3 0) (2 ^ (l - 1)) ≡ 0 → ⊥ = λ e. fork .if1 .left (ap (bitAnd (getD p 3 0)) (mark-is l high) ∙ e) in
+    announced l (start .args .allowed) p (announces-is l p low high ∙ mask-set (l - 1) (getD p 3 0) m)
+    (c .before .before .before .before .read-descriptor .ensures ∙ ap (admits (start .args .allowed)) (is-descriptor l p k))
+    (finish l p (c .before .before .clear-descriptor .last .0) k (mark-is l high) low high (start .pre .0)
+    (λ j. omega (arith, fork .before .before .slice-known .given j)) (c .before .before .clear-descriptor .ensures))
 
 pub take-notice-spec : {M : Type 1} → statement M
 take-notice-spec =
     tie.close
     (tie.spec
+    (λ c. search needs)
+    (λ c. search needs)
+    (λ c. search needs)
+    (λ c. search needs)
     (λ c κs. search needs)
     returns
-    (λ c κs. search needs)
-    returns-2
-    (λ c κs. search needs)
-    returns-3
-    (λ c. search needs)
-    (λ c. search needs)
-    (λ c. search needs)
-    (λ c κs. search needs)
-    returns-4
     (λ c. search needs)
     (λ c. search needs)
     (λ c. search needs)
@@ -89,4 +69,4 @@ take-notice-spec =
     (λ c κs. search needs)
     (λ c. search needs)
     (λ c. search needs)
-    returns-5)
+    returns-2)

@@ -7,14 +7,11 @@ use Rattle.icr.proofs.is_fixed.Tie as tie
 
 returns : tie.Need-returns
 unfolding icrIsFixed
-returns c = simp (ne-eqb _ _ (c .if1 .taken))
-
-is-vector-requires : tie.Need-is-vector-requires
-is-vector-requires c κs = search needs
+returns c = rw (← c .before .before .type-of .ensures, eq-eqb _ 0 (c .before .if1 .taken)) (c .is-vector .ensures)
 
 returns-2 : tie.Need-returns-2
 unfolding icrIsFixed
-returns-2 c = simp (eq-eqb _ _ (c .before .if1 .left)) (c .is-vector .ensures)
+returns-2 c = rw (← c .before .type-of .ensures, ne-eqb _ 0 (c .if1 .left))
 
 pub is-fixed-spec : {M : Type 1} → statement M
-is-fixed-spec = tie.close (tie.spec returns is-vector-requires returns-2)
+is-fixed-spec = tie.close (tie.spec (λ c κs. search needs) (λ c κs. search needs) returns returns-2)

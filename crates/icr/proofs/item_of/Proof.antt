@@ -7,11 +7,11 @@ use Rattle.icr.proofs.item_of.Tie as tie
 
 returns : tie.Need-returns
 unfolding icrItem
-returns c = simp (eq-eqb _ _ (c .if1 .taken))
+returns c = rw (← c .before .type-of .ensures, eq-eqb _ 4 (c .if1 .taken))
 
 returns-2 : tie.Need-returns-2
 unfolding icrItem
-returns-2 c = simp (ne-eqb _ _ (c .if1 .left))
+returns-2 c = rw (← c .before .type-of .ensures, ne-eqb _ 4 (c .if1 .left))
 
 pub item-of-spec : {M : Type 1} → statement M
-item-of-spec = tie.close (tie.spec returns (λ c. search needs) returns-2)
+item-of-spec = tie.close (tie.spec (λ c κs. search needs) returns (λ c. search needs) returns-2)

@@ -1,31 +1,26 @@
--- `requests::is_nameable` meets its contract: the two tests, and that a byte is at most 255.
--- Assumes nothing.
-use mathlib.Core.Bool.{and-true, and-false}
-use native.Mathlib.Omega.{arith}
-use borrow.Author.Tests.{lt-ltb, le-ltb, le-leb, eq-eqb, ne-eqb}
+-- `requests::is_nameable` meets its contract: the vector, then the bits above 8. Assumes nothing.
+use mathlib.Core.Path.{_≡_, _∙_}
+use mathlib.Core.Logic.{⊎-elim}
 use Prim.Native.Nat.{_%_}
-use Rattle.model.specs.Requests.{nameable}
+use borrow.Author.Needs.{needs}
+use borrow.Author.Tests.{eq-eqb, ne-eqb}
+use Rattle.model.specs.Requests.{mayName, nameable}
 use Rattle.requests.proofs.is_nameable.Statement.{statement}
 use Rattle.requests.proofs.is_nameable.Tie as tie
 
+may-name : (c : tie.Joined1) → c .if1 .if2 ≡ mayName (c .before .args .ecx % 256)
+may-name c =
+    ⊎-elim (λ w. rw (eq-eqb _ 2 (w .0 .taken)) (w .1 ∙ eq-eqb _ 2 (w .0 .taken)))
+    (λ w. rw (ne-eqb _ 2 (w .0 .left)) (w .2 ∙ w .1 .ensures))
+    (c .if1 .came)
+
 returns : tie.Need-returns
 unfolding nameable
-returns c = rw (le-ltb (c .before .args .ecx) 512 (c .if1 .taken), and-false)
+returns c = rw (← may-name (c .before), c .if2 .taken)
 
 returns-2 : tie.Need-returns-2
 unfolding nameable
-returns-2 c = rw (lt-ltb (c .before .before .args .ecx) 512 (c .before .if1 .left), eq-eqb _ _ (c .if2 .taken))
-
-returns-3 : tie.Need-returns-3
-unfolding nameable
-returns-3 c =
-    let x = c .before .before .args .ecx in
-    simp (
-      lt-ltb x 512 (c .before .if1 .left),
-      ne-eqb (x % 256) 2 (c .if2 .left),
-      le-leb (x % 256) 255 (omega arith),
-      and-true,
-    )
+returns-2 c = rw (← may-name (c .before), c .if2 .left)
 
 pub is-nameable-spec : {M : Type 1} → statement M
-is-nameable-spec = tie.close (tie.spec returns returns-2 returns-3)
+is-nameable-spec = tie.close (tie.spec (λ c. search needs) (λ c κs. search needs) returns returns-2)

@@ -8,7 +8,7 @@ use lib.Dec.{leb}
 use borrow.Author.Needs.{needs}
 use borrow.Author.Tests.{eq-eqb, ne-eqb, le-leb, lt-leb, leb-true}
 use Rattle.vector_set.proofs.Laws.{clash}
-use Rattle.model.specs.Doorbell.{isVector}
+use Rattle.vector_set.specs.Sets.{isVector}
 use Rattle.model.specs.Requests.{writeValue}
 use Rattle.requests.proofs.value_of.Statement.{statement}
 use Rattle.requests.proofs.value_of.Tie as tie
@@ -25,7 +25,7 @@ vector-le x e = go (leb 31 x) e
 
 returns : tie.Need-returns
 unfolding writeValue
-returns c = rw (c .before .match .keys1, eq-eqb _ _ (c .if1 .taken))
+returns c = rw (c .before .match .keys1, eq-eqb _ 0 (c .if1 .taken))
 
 returns-2 : tie.Need-returns-2
 unfolding writeValue
@@ -46,7 +46,7 @@ returns-4 c = rw (c .before .before .match .keys4, ← c .before .is-legal .ensu
 
 returns-5 : tie.Need-returns-5
 unfolding writeValue
-returns-5 c = rw (c .before .before .match .keys1, ne-eqb _ _ (c .before .if1 .left)) (c .bad .ensures)
+returns-5 c = rw (c .before .before .match .keys1, ne-eqb _ 0 (c .before .if1 .left)) (c .bad .ensures)
 
 returns-6 : tie.Need-returns-6
 unfolding writeValue

@@ -1,158 +1,106 @@
--- `trace::name_of` meets its contract: each test that failed leaves the next of the definition's.
+-- `trace::name_of` meets its contract: a test that holds gives the name, one that fails leaves the names after it.
 -- Assumes nothing.
-use mathlib.Core.Path.{sym, _∙_}
-use Rattle.trace.specs.Lines.{nameOf}
+use mathlib.Core.Path.{_≡_, sym, _∙_}
+use mathlib.Core.List.{List}
+use Prim.Native.Nat.{ℕ}
+use lib.ListN.{drop}
+use Rattle.trace.specs.Lines.{names, nameIn, nameOf}
+use Rattle.trace.proofs.Events.{name-hit, name-miss}
 use borrow.Author.Needs.{needs}
 use Rattle.trace.proofs.name_of.Statement.{statement}
 use Rattle.trace.proofs.name_of.Tie as tie
 
-slice-aggregate-is : tie.Need-slice-aggregate-is
-slice-aggregate-is c = search needs
-
-is-requires : tie.Need-is-requires
-is-requires c κs = search needs
+-- no one of the first k names is the word
+abbrev Left : ℕ → List ℕ → Type 0
+Left k w = nameIn (drop k names) w ≡ nameOf w
 
 returns : tie.Need-returns
-unfolding nameOf
-returns c =
-    rw
-    (sym (c .before .is .ensures) ∙ c .if1 .taken)
+returns c = name-hit _ _ _ _ (sym (c .before .is .ensures) ∙ c .if1 .taken)
 
-slice-aggregate-is-2 : tie.Need-slice-aggregate-is-2
-slice-aggregate-is-2 c = search needs
+abbrev word-1 : tie.Else1 → List ℕ
+word-1 c = c .before .before .before .before .args .word .now
 
-is-requires-2 : tie.Need-is-requires-2
-is-requires-2 c κs = search needs
+left-1 : (c : tie.Else1) → Left 1 (word-1 c)
+left-1 c = name-miss _ _ _ _ (sym (c .before .is .ensures) ∙ c .if1 .left)
 
 returns-2 : tie.Need-returns-2
-unfolding nameOf
-returns-2 c =
-    rw (
-      sym (c .before .before .before .before .is .ensures) ∙ c .before .before .before .if1 .left,
-      sym (c .before .is2 .ensures) ∙ c .if2 .taken,
-    )
+returns-2 c = name-hit _ _ _ _ (sym (c .before .is2 .ensures) ∙ c .if2 .taken) ∙ left-1 (c .before .before .before)
 
-slice-aggregate-is-3 : tie.Need-slice-aggregate-is-3
-slice-aggregate-is-3 c = search needs
+abbrev word-2 : tie.Else2 → List ℕ
+word-2 c = word-1 (c .before .before .before)
 
-is-requires-3 : tie.Need-is-requires-3
-is-requires-3 c κs = search needs
+left-2 : (c : tie.Else2) → Left 2 (word-2 c)
+left-2 c = name-miss _ _ _ _ (sym (c .before .is2 .ensures) ∙ c .if2 .left) ∙ left-1 (c .before .before .before)
 
 returns-3 : tie.Need-returns-3
-unfolding nameOf
-returns-3 c =
-    rw (
-      sym (c .before .before .before .before .before .before .before .is .ensures) ∙ c .before .before .before .before .before .before .if1 .left,
-      sym (c .before .before .before .before .is2 .ensures) ∙ c .before .before .before .if2 .left,
-      sym (c .before .is3 .ensures) ∙ c .if3 .taken,
-    )
+returns-3 c = name-hit _ _ _ _ (sym (c .before .is3 .ensures) ∙ c .if3 .taken) ∙ left-2 (c .before .before .before)
 
-slice-aggregate-is-4 : tie.Need-slice-aggregate-is-4
-slice-aggregate-is-4 c = search needs
+abbrev word-3 : tie.Else3 → List ℕ
+word-3 c = word-2 (c .before .before .before)
 
-is-requires-4 : tie.Need-is-requires-4
-is-requires-4 c κs = search needs
+left-3 : (c : tie.Else3) → Left 3 (word-3 c)
+left-3 c = name-miss _ _ _ _ (sym (c .before .is3 .ensures) ∙ c .if3 .left) ∙ left-2 (c .before .before .before)
 
 returns-4 : tie.Need-returns-4
-unfolding nameOf
-returns-4 c =
-    rw (
-      sym (c .before .before .before .before .before .before .before .before .before .before .is .ensures) ∙ c .before .before .before .before .before .before .before .before .before .if1 .left,
-      sym (c .before .before .before .before .before .before .before .is2 .ensures) ∙ c .before .before .before .before .before .before .if2 .left,
-      sym (c .before .before .before .before .is3 .ensures) ∙ c .before .before .before .if3 .left,
-      sym (c .before .is4 .ensures) ∙ c .if4 .taken,
-    )
+returns-4 c = name-hit _ _ _ _ (sym (c .before .is4 .ensures) ∙ c .if4 .taken) ∙ left-3 (c .before .before .before)
 
-slice-aggregate-is-5 : tie.Need-slice-aggregate-is-5
-slice-aggregate-is-5 c = search needs
+abbrev word-4 : tie.Else4 → List ℕ
+word-4 c = word-3 (c .before .before .before)
 
-is-requires-5 : tie.Need-is-requires-5
-is-requires-5 c κs = search needs
+left-4 : (c : tie.Else4) → Left 4 (word-4 c)
+left-4 c = name-miss _ _ _ _ (sym (c .before .is4 .ensures) ∙ c .if4 .left) ∙ left-3 (c .before .before .before)
 
 returns-5 : tie.Need-returns-5
-unfolding nameOf
-returns-5 c =
-    rw (
-      sym (c .before .before .before .before .before .before .before .before .before .before .before .before .before .is .ensures) ∙ c .before .before .before .before .before .before .before .before .before .before .before .before .if1 .left,
-      sym (c .before .before .before .before .before .before .before .before .before .before .is2 .ensures) ∙ c .before .before .before .before .before .before .before .before .before .if2 .left,
-      sym (c .before .before .before .before .before .before .before .is3 .ensures) ∙ c .before .before .before .before .before .before .if3 .left,
-      sym (c .before .before .before .before .is4 .ensures) ∙ c .before .before .before .if4 .left,
-      sym (c .before .is5 .ensures) ∙ c .if5 .taken,
-    )
+returns-5 c = name-hit _ _ _ _ (sym (c .before .is5 .ensures) ∙ c .if5 .taken) ∙ left-4 (c .before .before .before)
 
-slice-aggregate-is-6 : tie.Need-slice-aggregate-is-6
-slice-aggregate-is-6 c = search needs
+abbrev word-5 : tie.Else5 → List ℕ
+word-5 c = word-4 (c .before .before .before)
 
-is-requires-6 : tie.Need-is-requires-6
-is-requires-6 c κs = search needs
+left-5 : (c : tie.Else5) → Left 5 (word-5 c)
+left-5 c = name-miss _ _ _ _ (sym (c .before .is5 .ensures) ∙ c .if5 .left) ∙ left-4 (c .before .before .before)
 
 returns-6 : tie.Need-returns-6
-unfolding nameOf
-returns-6 c =
-    rw (
-      sym (c .before .before .before .before .before .before .before .before .before .before .before .before .before .before .before .before .is .ensures) ∙ c .before .before .before .before .before .before .before .before .before .before .before .before .before .before .before .if1 .left,
-      sym (c .before .before .before .before .before .before .before .before .before .before .before .before .before .is2 .ensures) ∙ c .before .before .before .before .before .before .before .before .before .before .before .before .if2 .left,
-      sym (c .before .before .before .before .before .before .before .before .before .before .is3 .ensures) ∙ c .before .before .before .before .before .before .before .before .before .if3 .left,
-      sym (c .before .before .before .before .before .before .before .is4 .ensures) ∙ c .before .before .before .before .before .before .if4 .left,
-      sym (c .before .before .before .before .is5 .ensures) ∙ c .before .before .before .if5 .left,
-      sym (c .before .is6 .ensures) ∙ c .if6 .taken,
-    )
+returns-6 c = name-hit _ _ _ _ (sym (c .before .is6 .ensures) ∙ c .if6 .taken) ∙ left-5 (c .before .before .before)
 
-slice-aggregate-is-7 : tie.Need-slice-aggregate-is-7
-slice-aggregate-is-7 c = search needs
+abbrev word-6 : tie.Else6 → List ℕ
+word-6 c = word-5 (c .before .before .before)
 
-is-requires-7 : tie.Need-is-requires-7
-is-requires-7 c κs = search needs
+left-6 : (c : tie.Else6) → Left 6 (word-6 c)
+left-6 c = name-miss _ _ _ _ (sym (c .before .is6 .ensures) ∙ c .if6 .left) ∙ left-5 (c .before .before .before)
 
 returns-7 : tie.Need-returns-7
-unfolding nameOf
-returns-7 c =
-    rw (
-      sym (c .before .before .before .before .before .before .before .before .before .before .before .before .before .before .before .before .before .before .before .is .ensures) ∙ c .before .before .before .before .before .before .before .before .before .before .before .before .before .before .before .before .before .before .if1 .left,
-      sym (c .before .before .before .before .before .before .before .before .before .before .before .before .before .before .before .before .is2 .ensures) ∙ c .before .before .before .before .before .before .before .before .before .before .before .before .before .before .before .if2 .left,
-      sym (c .before .before .before .before .before .before .before .before .before .before .before .before .before .is3 .ensures) ∙ c .before .before .before .before .before .before .before .before .before .before .before .before .if3 .left,
-      sym (c .before .before .before .before .before .before .before .before .before .before .is4 .ensures) ∙ c .before .before .before .before .before .before .before .before .before .if4 .left,
-      sym (c .before .before .before .before .before .before .before .is5 .ensures) ∙ c .before .before .before .before .before .before .if5 .left,
-      sym (c .before .before .before .before .is6 .ensures) ∙ c .before .before .before .if6 .left,
-      sym (c .before .is7 .ensures) ∙ c .if7 .taken,
-    )
+returns-7 c = name-hit _ _ _ _ (sym (c .before .is7 .ensures) ∙ c .if7 .taken) ∙ left-6 (c .before .before .before)
+
+left-7 : (c : tie.Else7) → Left 7 (word-6 (c .before .before .before))
+left-7 c = name-miss _ _ _ _ (sym (c .before .is7 .ensures) ∙ c .if7 .left) ∙ left-6 (c .before .before .before)
 
 returns-8 : tie.Need-returns-8
-unfolding nameOf
-returns-8 c =
-    rw (
-      sym (c .before .before .before .before .before .before .before .before .before .before .before .before .before .before .before .before .before .before .before .is .ensures) ∙ c .before .before .before .before .before .before .before .before .before .before .before .before .before .before .before .before .before .before .if1 .left,
-      sym (c .before .before .before .before .before .before .before .before .before .before .before .before .before .before .before .before .is2 .ensures) ∙ c .before .before .before .before .before .before .before .before .before .before .before .before .before .before .before .if2 .left,
-      sym (c .before .before .before .before .before .before .before .before .before .before .before .before .before .is3 .ensures) ∙ c .before .before .before .before .before .before .before .before .before .before .before .before .if3 .left,
-      sym (c .before .before .before .before .before .before .before .before .before .before .is4 .ensures) ∙ c .before .before .before .before .before .before .before .before .before .if4 .left,
-      sym (c .before .before .before .before .before .before .before .is5 .ensures) ∙ c .before .before .before .before .before .before .if5 .left,
-      sym (c .before .before .before .before .is6 .ensures) ∙ c .before .before .before .if6 .left,
-      sym (c .before .is7 .ensures) ∙ c .if7 .left,
-    )
+unfolding nameIn
+returns-8 c = left-7 c
 
 pub name-of-spec : {M : Type 1} → statement M
 name-of-spec =
     tie.close
     (tie.spec
-    slice-aggregate-is
-    is-requires
+    (λ c. search needs)
+    (λ c κs. search needs)
     returns
-    slice-aggregate-is-2
-    is-requires-2
+    (λ c. search needs)
+    (λ c κs. search needs)
     returns-2
-    slice-aggregate-is-3
-    is-requires-3
+    (λ c. search needs)
+    (λ c κs. search needs)
     returns-3
-    slice-aggregate-is-4
-    is-requires-4
+    (λ c. search needs)
+    (λ c κs. search needs)
     returns-4
-    slice-aggregate-is-5
-    is-requires-5
+    (λ c. search needs)
+    (λ c κs. search needs)
     returns-5
-    slice-aggregate-is-6
-    is-requires-6
+    (λ c. search needs)
+    (λ c κs. search needs)
     returns-6
-    slice-aggregate-is-7
-    is-requires-7
+    (λ c. search needs)
+    (λ c κs. search needs)
     returns-7
     returns-8)

@@ -7,51 +7,6 @@ use borrow.Author.Needs.{needs}
 use Rattle.trace.proofs.read_named.Statement.{statement}
 use Rattle.trace.proofs.read_named.Tie as tie
 
-enum-told : tie.Need-enum-told
-enum-told c = search needs
-
-read-start-requires : tie.Need-read-start-requires
-read-start-requires c κs = search needs
-
-enum-told-2 : tie.Need-enum-told-2
-enum-told-2 c = search needs
-
-read-notice-requires : tie.Need-read-notice-requires
-read-notice-requires c κs = search needs
-
-enum-told-3 : tie.Need-enum-told-3
-enum-told-3 c = search needs
-
-read-call-requires : tie.Need-read-call-requires
-read-call-requires c κs = search needs
-
-enum-told-4 : tie.Need-enum-told-4
-enum-told-4 c = search needs
-
-read-entry-requires : tie.Need-read-entry-requires
-read-entry-requires c κs = search needs
-
-enum-told-5 : tie.Need-enum-told-5
-enum-told-5 c = search needs
-
-read-non-delivery-requires : tie.Need-read-non-delivery-requires
-read-non-delivery-requires c κs = search needs
-
-enum-told-6 : tie.Need-enum-told-6
-enum-told-6 c = search needs
-
-read-hand-back-requires : tie.Need-read-hand-back-requires
-read-hand-back-requires c κs = search needs
-
-enum-told-7 : tie.Need-enum-told-7
-enum-told-7 c = search needs
-
-ended-requires : tie.Need-ended-requires
-ended-requires c κs = search needs
-
-enum-told-8 : tie.Need-enum-told-8
-enum-told-8 c = search needs
-
 returns : tie.Need-returns
 unfolding named
 returns c = (
@@ -109,21 +64,21 @@ pub read-named-spec : {M : Type 1} → statement M
 read-named-spec =
     tie.close
     (tie.spec
-    enum-told
-    read-start-requires
-    enum-told-2
-    read-notice-requires
-    enum-told-3
-    read-call-requires
-    enum-told-4
-    read-entry-requires
-    enum-told-5
-    read-non-delivery-requires
-    enum-told-6
-    read-hand-back-requires
-    enum-told-7
-    ended-requires
-    enum-told-8
+    (λ c. search needs)
+    (λ c κs. search needs)
+    (λ c. search needs)
+    (λ c κs. search needs)
+    (λ c. search needs)
+    (λ c κs. search needs)
+    (λ c. search needs)
+    (λ c κs. search needs)
+    (λ c. search needs)
+    (λ c κs. search needs)
+    (λ c. search needs)
+    (λ c κs. search needs)
+    (λ c. search needs)
+    (λ c κs. search needs)
+    (λ c. search needs)
     returns
     returns-2
     returns-3

@@ -1,8 +1,10 @@
--- `vcpu_entries::offer_of` meets its contract, by shadow, NMI-blocked and the NMI mark. Assumes nothing.
-use mathlib.Core.Path.{_≡_, refl, sym, ap, _∙_}
-use mathlib.Core.Bool.{Bool, true, false, cond, _&&_}
+-- `vcpu_entries::offer_of` meets its contract, by the test for the NMI. Assumes nothing.
+use mathlib.Core.Path.{_≡_, refl, sym, ap, ap₂, _∙_}
+use mathlib.Core.Bool.{Bool, true, false, cond, not, _&&_, _||_}
+use mathlib.Core.Logic.{_⊎_, inl, inr, ⊎-elim}
 use borrow.Author.Needs.{needs}
 use Rattle.vector_set.specs.Sets.{highest}
+use Rattle.vector_set.proofs.Laws.{clash}
 use Rattle.model.specs.declared.Vcpu.{Vcpu}
 use Rattle.model.specs.Registers.{ppr}
 use Rattle.model.specs.declared.Item.the-variants as item
@@ -11,79 +13,49 @@ use Rattle.model.specs.Events.{offerHighest, offer}
 use Rattle.vcpu_entries.proofs.offer_of.Statement.{statement}
 use Rattle.vcpu_entries.proofs.offer_of.Tie as tie
 
--- the highest pending vector, where the NMI is not offered
-highestOf : Bool → Vcpu → Answer
-highestOf b v = offerHighest b (ppr v) (highest (v .irr))
+-- what is offered where the test for the NMI gives t, to a guest that is ready for a vector or not
+chosen : Bool → Bool → Vcpu → Answer
+chosen t ready v = cond t (presents item.Nmi) (offerHighest ready (ppr v) (highest (v .irr)))
 
-shadowed : (iF sh bl : Bool) (v : Vcpu) → sh ≡ true → highestOf false v ≡ offer iF sh bl v
-unfolding highestOf offer
-shadowed iF sh bl v e = rw e (go (v .nmi) iF)
-  where
-    go : (n b : Bool) → highestOf false v ≡ cond (n && false) (presents item.Nmi) (highestOf (b && false) v)
-    go true true = refl
-    go true false = refl
-    go false true = refl
-    go false false = refl
+chosen-is : (iF sh bl t ready : Bool) (v : Vcpu) → t ≡ (v .nmi && not (sh || bl)) → ready ≡ (iF && not sh) → chosen t ready v ≡ offer iF sh bl v
+unfolding chosen offer
+chosen-is iF sh bl t ready v e f = ap₂ (λ (t ready : Bool). chosen t ready v) e f
 
-and-true : (b : Bool) → b ≡ (b && true)
-and-true true = refl
-and-true false = refl
+all-pass : (nmi sh bl : Bool) → nmi ≡ true → not sh ≡ true → not bl ≡ true → true ≡ (nmi && not (sh || bl))
+all-pass true false false e f g = refl
+all-pass true false true e f g = sym g
+all-pass true true bl e f g = sym f
+all-pass false sh bl e f g = sym e
 
-blocking : (iF sh bl : Bool) (v : Vcpu) → sh ≡ false → bl ≡ true → highestOf iF v ≡ offer iF sh bl v
-unfolding highestOf offer
-blocking iF sh bl v e f = rw (e, f) (go (v .nmi))
-  where
-    go : (n : Bool) → highestOf iF v ≡ cond (n && false) (presents item.Nmi) (highestOf (iF && true) v)
-    go true = ap (λ (b : Bool). highestOf b v) (and-true iF)
-    go false = ap (λ (b : Bool). highestOf b v) (and-true iF)
-
-marked : (iF sh bl : Bool) (v : Vcpu) → sh ≡ false → bl ≡ false → v .nmi ≡ true → presents item.Nmi ≡ offer iF sh bl v
-unfolding highestOf offer
-marked iF sh bl v e f g = rw (e, f) (ap (λ (n : Bool). cond (n && true) (presents item.Nmi) (highestOf (iF && true) v)) (sym g))
-
-unmarked : (iF sh bl : Bool) (v : Vcpu) → sh ≡ false → bl ≡ false → v .nmi ≡ false → highestOf iF v ≡ offer iF sh bl v
-unfolding highestOf offer
-unmarked iF sh bl v e f g =
-    rw (e, f)
-    (ap (λ (b : Bool). highestOf b v) (and-true iF)
-    ∙ ap (λ (n : Bool). cond (n && true) (presents item.Nmi) (highestOf (iF && true) v)) (sym g))
+one-fails : (nmi sh bl : Bool) → (not bl ≡ false) ⊎ ((not sh ≡ false) ⊎ (nmi ≡ false)) → false ≡ (nmi && not (sh || bl))
+one-fails false sh bl e = refl
+one-fails true true bl e = refl
+one-fails true false true e = refl
+one-fails true false false (inl e) = clash (cc)
+one-fails true false false (inr (inl e)) = clash (cc)
+one-fails true false false (inr (inr e)) = clash (cc)
 
 returns : tie.Need-returns
-unfolding highestOf
+unfolding chosen
 returns c =
-    let a = c .before .before .args in
-    c .offer-vector .ensures ∙ ap answers (shadowed (a .iflag) (a .shadow) (a .blocked) (a .v) (c .before .if1 .taken))
+    let d = c .before .before in
+    let a = d .before .args in
+    ap answers
+    (chosen-is (a .iflag) (a .shadow) (a .blocked) true _ (a .v)
+    (all-pass (a .v .nmi) (a .shadow) (a .blocked) (d .if1 .taken) (c .before .if2 .taken) (c .if3 .taken)) refl)
 
 returns-2 : tie.Need-returns-2
-unfolding highestOf
+unfolding chosen
 returns-2 c =
-    let d = c .before in
-    let a = d .before .before .args in
-    c .offer-vector2 .ensures
-    ∙ ap answers (blocking (a .iflag) (a .shadow) (a .blocked) (a .v) (d .before .if1 .left) (d .if2 .taken))
-
-returns-3 : tie.Need-returns-3
-returns-3 c =
-    let d = c .before in
-    let a = d .before .before .args in
-    ap answers (marked (a .iflag) (a .shadow) (a .blocked) (a .v) (d .before .if1 .left) (d .if2 .left) (c .if3 .taken))
-
-returns-4 : tie.Need-returns-4
-unfolding highestOf
-returns-4 c =
     let d = c .before .before in
-    let a = d .before .before .args in
-    c .offer-vector3 .ensures
-    ∙ ap answers (unmarked (a .iflag) (a .shadow) (a .blocked) (a .v) (d .before .if1 .left) (d .if2 .left) (c .before .if3 .left))
+    let a = d .before .args in
+    let ready : Bool → Bool = λ b. b && not (a .shadow) in
+    c .offer-vector .ensures
+    ∙ ap answers
+    (chosen-is (a .iflag) (a .shadow) (a .blocked) false _ (a .v)
+    (one-fails (a .v .nmi) (a .shadow) (a .blocked)
+    (⊎-elim (λ t. inl (t .2 .left)) (⊎-elim (λ t. inr (inl (t .1 .left))) (λ t. inr (inr (t .left)))) (d .if1 .came)))
+    (⊎-elim (λ t. t .1 ∙ ap ready (sym (t .0 .taken))) (λ t. t .1 ∙ t .0 .left ∙ ap ready (sym (t .0 .left))) (c .before .if4 .came)))
 
 pub offer-of-spec : {M : Type 1} → statement M
-offer-of-spec =
-    tie.close
-    (tie.spec
-    (λ c κs. search needs)
-    returns
-    (λ c κs. search needs)
-    returns-2
-    returns-3
-    (λ c κs. search needs)
-    returns-4)
+offer-of-spec = tie.close (tie.spec returns (λ c κs. search needs) returns-2)

@@ -14,15 +14,10 @@ returns c =
     let d = c .before .before .before .before in
     let a = d .before .before .before .before .before .args in
     c .with-flight .ensures
-    ∙ same-sets (Vector (a .x)) (a .v) (d .remove .ensures) (c .before .before .before .insert .ensures) (c .before .before .remove2 .ensures) (c .before .gain .ensures)
+    ∙ same-sets (Vector (a .x)) (a .v) (d .remove .ensures) (c .before .before .before .insert .ensures)
+    (c .before .before .remove2 .ensures) (c .before .gain .ensures)
 
 pub present-vector-spec : {M : Type 1} → statement M
 present-vector-spec =
     tie.close
-    (tie.spec
-    (λ c κs. search needs)
-    (λ c κs. search needs)
-    (λ c κs. search needs)
-    (λ c κs. search needs)
-    (λ c κs. search needs)
-    returns)
+    (tie.spec (λ c κs. search needs) (λ c κs. search needs) (λ c κs. search needs) (λ c κs. search needs) (λ c κs. search needs) returns)

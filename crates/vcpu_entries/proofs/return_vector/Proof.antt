@@ -14,15 +14,10 @@ returns c =
     let d = c .before .before .before .before in
     let a = d .before .before .before .before .before .args in
     c .with-flight .ensures
-    ∙ same-sets Nothing (a .v) (d .insert .ensures) (c .before .before .before .remove .ensures) (c .before .before .gain .ensures) (c .before .remove2 .ensures)
+    ∙ same-sets Nothing (a .v) (d .insert .ensures) (c .before .before .before .remove .ensures)
+    (c .before .before .gain .ensures) (c .before .remove2 .ensures)
 
 pub return-vector-spec : {M : Type 1} → statement M
 return-vector-spec =
     tie.close
-    (tie.spec
-    (λ c κs. search needs)
-    (λ c κs. search needs)
-    (λ c κs. search needs)
-    (λ c κs. search needs)
-    (λ c κs. search needs)
-    returns)
+    (tie.spec (λ c κs. search needs) (λ c κs. search needs) (λ c κs. search needs) (λ c κs. search needs) (λ c κs. search needs) returns)

@@ -1,6 +1,5 @@
 -- `vector_set::difference` meets its contract: each word is the and of one and the complement of the other. Assumes nothing.
-use Rattle.vector_set.proofs.WordLaws.{array-words, difference-words}
-use lib.Dec.{lit<}
+use Rattle.vector_set.proofs.WordLaws.{array-words, difference-words, at}
 use Rattle.vector_set.proofs.difference.Statement.{statement}
 use Rattle.vector_set.proofs.difference.Tie as tie
 
@@ -10,21 +9,5 @@ returns c = difference-words (c .args .t1) (c .args .t2) (array-words (c .args .
 pub difference-spec : {M : Type 1} → statement M
 difference-spec =
     tie.close
-    (tie.spec
-    (λ c. lit< tt)
-    (λ c. lit< tt)
-    (λ c. lit< tt)
-    (λ c. lit< tt)
-    (λ c. lit< tt)
-    (λ c. lit< tt)
-    (λ c. lit< tt)
-    (λ c. lit< tt)
-    (λ c. lit< tt)
-    (λ c. lit< tt)
-    (λ c. lit< tt)
-    (λ c. lit< tt)
-    (λ c. lit< tt)
-    (λ c. lit< tt)
-    (λ c. lit< tt)
-    (λ c. lit< tt)
+    (tie.spec (at tt) (at tt) (at tt) (at tt) (at tt) (at tt) (at tt) (at tt) (at tt) (at tt) (at tt) (at tt) (at tt) (at tt) (at tt) (at tt)
     returns)

@@ -1,6 +1,5 @@
 -- `vector_set::intersection` meets its contract: each word is the and of two. Assumes nothing.
-use Rattle.vector_set.proofs.WordLaws.{array-words, intersection-words}
-use lib.Dec.{lit<}
+use Rattle.vector_set.proofs.WordLaws.{array-words, intersection-words, at}
 use Rattle.vector_set.proofs.intersection.Statement.{statement}
 use Rattle.vector_set.proofs.intersection.Tie as tie
 
@@ -10,21 +9,5 @@ returns c = intersection-words (c .args .t1) (c .args .t2) (array-words (c .args
 pub intersection-spec : {M : Type 1} → statement M
 intersection-spec =
     tie.close
-    (tie.spec
-    (λ c. lit< tt)
-    (λ c. lit< tt)
-    (λ c. lit< tt)
-    (λ c. lit< tt)
-    (λ c. lit< tt)
-    (λ c. lit< tt)
-    (λ c. lit< tt)
-    (λ c. lit< tt)
-    (λ c. lit< tt)
-    (λ c. lit< tt)
-    (λ c. lit< tt)
-    (λ c. lit< tt)
-    (λ c. lit< tt)
-    (λ c. lit< tt)
-    (λ c. lit< tt)
-    (λ c. lit< tt)
+    (tie.spec (at tt) (at tt) (at tt) (at tt) (at tt) (at tt) (at tt) (at tt) (at tt) (at tt) (at tt) (at tt) (at tt) (at tt) (at tt) (at tt)
     returns)

@@ -1,6 +1,5 @@
 -- `vector_set::union` meets its contract: each word is the or of two. Assumes nothing.
-use Rattle.vector_set.proofs.WordLaws.{array-words, union-words}
-use lib.Dec.{lit<}
+use Rattle.vector_set.proofs.WordLaws.{array-words, union-words, at}
 use Rattle.vector_set.proofs.union.Statement.{statement}
 use Rattle.vector_set.proofs.union.Tie as tie
 
@@ -10,21 +9,5 @@ returns c = union-words (c .args .t1) (c .args .t2) (array-words (c .args .t1) _
 pub union-spec : {M : Type 1} → statement M
 union-spec =
     tie.close
-    (tie.spec
-    (λ c. lit< tt)
-    (λ c. lit< tt)
-    (λ c. lit< tt)
-    (λ c. lit< tt)
-    (λ c. lit< tt)
-    (λ c. lit< tt)
-    (λ c. lit< tt)
-    (λ c. lit< tt)
-    (λ c. lit< tt)
-    (λ c. lit< tt)
-    (λ c. lit< tt)
-    (λ c. lit< tt)
-    (λ c. lit< tt)
-    (λ c. lit< tt)
-    (λ c. lit< tt)
-    (λ c. lit< tt)
+    (tie.spec (at tt) (at tt) (at tt) (at tt) (at tt) (at tt) (at tt) (at tt) (at tt) (at tt) (at tt) (at tt) (at tt) (at tt) (at tt) (at tt)
     returns)

@@ -1,9 +1,7 @@
--- `doorbell::descriptor::level_of` meets its contract, answer by answer. Assumes nothing.
+-- `doorbell::descriptor::level_of` meets its contract: by bit 10 and whether the vector may be named. Assumes nothing.
 use mathlib.Core.Path.{refl, sym, _∙_}
-use Prim.Native.Nat.{_<_}
-use native.Mathlib.Omega.{arith}
+use mathlib.Core.Logic.{⊎-elim}
 use lib.ListN.{getD}
-use borrow.Author.Tests.{le-leb, lt-leb}
 use Rattle.model.specs.Doorbell.{bitOf}
 use Rattle.doorbell.proofs.Bytes.{mask-clear, mask-set}
 use Rattle.doorbell.proofs.Admits.{level-is}
@@ -14,47 +12,18 @@ use Rattle.doorbell.proofs.descriptor.level_of.Tie as tie
 returns : tie.Need-returns
 unfolding bitOf
 returns c =
-    let start = c .before .before .before .before in
-    let d = start .args .d .now in
-    let s : getD d 0 0 < 256 = omega (arith, c .before .before .before .shared-slice-known .given 0) in
-    sym (level-is (start .args .allowed) (start .args .d .now) s (mask-clear 2 (getD d 1 0) (c .if1 .taken)) refl refl)
+    let a = c .before .before .before .before .before .before .args in
+    sym (level-is (a .allowed) (a .d .now) (mask-set 2 (getD (a .d .now) 1 0) (c .before .before .if1 .taken))
+    (sym (c .before .may-name .ensures) ∙ c .if2 .taken))
 
 returns-2 : tie.Need-returns-2
 unfolding bitOf
 returns-2 c =
-    let start = c .before .before .before .before .before in
-    let d = start .args .d .now in
-    let s : getD d 0 0 < 256 = omega (arith, c .before .before .before .before .shared-slice-known .given 0) in
-    sym (level-is (start .args .allowed) (start .args .d .now) s (mask-set 2 (getD d 1 0) (c .before .if1 .left)) (lt-leb 31 (getD d 0 0) (c .if2 .taken)) refl)
-
-returns-3 : tie.Need-returns-3
-unfolding bitOf
-returns-3 c =
-    let start = c .before .before .before .before .before .before .before in
-    let d = start .args .d .now in
-    let s : getD d 0 0 < 256 = omega (arith, c .before .before .before .before .before .before .shared-slice-known .given 0) in
-    sym
-    (level-is (start .args .allowed) (start .args .d .now) s (mask-set 2 (getD d 1 0) (c .before .before .before .if1 .left)) (le-leb 31 (getD d 0 0) (c .before .before .if2 .left))
-    (sym (c .before .contains .ensures) ∙ c .if3 .taken))
-
-returns-4 : tie.Need-returns-4
-unfolding bitOf
-returns-4 c =
-    let start = c .before .before .before .before .before .before .before in
-    let d = start .args .d .now in
-    let s : getD d 0 0 < 256 = omega (arith, c .before .before .before .before .before .before .shared-slice-known .given 0) in
-    sym
-    (level-is (start .args .allowed) (start .args .d .now) s (mask-set 2 (getD d 1 0) (c .before .before .before .if1 .left)) (le-leb 31 (getD d 0 0) (c .before .before .if2 .left))
-    (sym (c .before .contains .ensures) ∙ c .if3 .left))
+    let a = c .before .before .before .before .args in
+    ⊎-elim
+    (λ w. sym (level-is (a .allowed) (a .d .now) (mask-set 2 (getD (a .d .now) 1 0) (w .0 .taken)) (sym (w .1 .ensures) ∙ w .2 .left)))
+    (λ w. sym (level-is (a .allowed) (a .d .now) (mask-clear 2 (getD (a .d .now) 1 0) (w .left)) refl))
+    (c .if1 .came)
 
 pub level-of-spec : {M : Type 1} → statement M
-level-of-spec =
-    tie.close
-    (tie.spec
-    (λ c. search needs)
-    (λ c. search needs)
-    returns
-    returns-2
-    (λ c κs. search needs)
-    returns-3
-    returns-4)
+level-of-spec = tie.close (tie.spec (λ c. search needs) (λ c. search needs) (λ c κs. search needs) returns returns-2)

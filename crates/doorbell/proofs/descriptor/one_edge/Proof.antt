@@ -1,9 +1,7 @@
--- `doorbell::descriptor::one_edge` meets its contract, answer by answer. Assumes nothing.
+-- `doorbell::descriptor::one_edge` meets its contract: by bit 10 and whether the vector may be named. Assumes nothing.
 use mathlib.Core.Path.{refl, sym, ap, _∙_}
-use Prim.Native.Nat.{_<_}
-use native.Mathlib.Omega.{arith}
+use mathlib.Core.Logic.{⊎-elim}
 use lib.ListN.{getD}
-use borrow.Author.Tests.{le-leb, lt-leb}
 use Rattle.vector_set.specs.Sets.{insert}
 use Rattle.model.specs.Doorbell.{bitOf}
 use Rattle.doorbell.proofs.Bytes.{mask-clear, mask-set}
@@ -15,52 +13,25 @@ use Rattle.doorbell.proofs.descriptor.one_edge.Tie as tie
 returns : tie.Need-returns
 unfolding bitOf
 returns c =
-    let start = c .before .before .before .before .before in
-    let d = start .args .d .now in
-    let s : getD d 0 0 < 256 = omega (arith, c .before .before .before .before .shared-slice-known .given 0) in
-    c .before .before .no-vectors .ensures ∙ sym (one-is (start .args .allowed) (start .args .d .now) (start .pre .1) s (mask-set 2 (getD d 1 0) (c .if1 .taken)) refl refl)
+    let start = c .before .before .before .before .before .before .before .before in
+    let a = start .args in
+    c .insert .ensures ∙ ap (insert (getD (a .d .now) 0 0)) (c .before .before .before .before .before .no-vectors .ensures)
+    ∙ sym (one-is (a .allowed) (a .d .now) (start .pre .1) (mask-clear 2 (getD (a .d .now) 1 0) (c .before .before .before .if1 .taken))
+    (sym (c .before .before .may-name .ensures) ∙ c .before .if2 .taken))
 
 returns-2 : tie.Need-returns-2
 unfolding bitOf
 returns-2 c =
-    let start = c .before .before .before .before .before .before in
-    let d = start .args .d .now in
-    let s : getD d 0 0 < 256 = omega (arith, c .before .before .before .before .before .shared-slice-known .given 0) in
-    c .before .before .before .no-vectors .ensures
-    ∙ sym (one-is (start .args .allowed) (start .args .d .now) (start .pre .1) s (mask-clear 2 (getD d 1 0) (c .before .if1 .left)) (lt-leb 31 (getD d 0 0) (c .if2 .taken)) refl)
-
-returns-3 : tie.Need-returns-3
-unfolding bitOf
-returns-3 c =
-    let start = c .before .before .before .before .before .before .before .before .before in
-    let d = start .args .d .now in
-    let s : getD d 0 0 < 256 = omega (arith, c .before .before .before .before .before .before .before .before .shared-slice-known .given 0) in
-    c .insert .ensures ∙ ap (insert (getD d 0 0)) (c .before .before .before .before .before .before .no-vectors .ensures)
+    let start = c .before .before .before .before .before in
+    let a = start .args in
+    c .before .before .no-vectors .ensures
     ∙ sym
-    (one-is (start .args .allowed) (start .args .d .now) (start .pre .1) s (mask-clear 2 (getD d 1 0) (c .before .before .before .before .if1 .left)) (le-leb 31 (getD d 0 0) (c .before .before .before .if2 .left))
-    (sym (c .before .before .contains .ensures) ∙ c .before .if3 .taken))
-
-returns-4 : tie.Need-returns-4
-unfolding bitOf
-returns-4 c =
-    let start = c .before .before .before .before .before .before .before .before in
-    let d = start .args .d .now in
-    let s : getD d 0 0 < 256 = omega (arith, c .before .before .before .before .before .before .before .shared-slice-known .given 0) in
-    c .before .before .before .before .before .no-vectors .ensures
-    ∙ sym
-    (one-is (start .args .allowed) (start .args .d .now) (start .pre .1) s (mask-clear 2 (getD d 1 0) (c .before .before .before .if1 .left)) (le-leb 31 (getD d 0 0) (c .before .before .if2 .left))
-    (sym (c .before .contains .ensures) ∙ c .if3 .left))
+    (⊎-elim
+    (λ w. one-is (a .allowed) (a .d .now) (start .pre .1) (mask-clear 2 (getD (a .d .now) 1 0) (w .0 .taken)) (sym (w .1 .ensures) ∙ w .2 .left))
+    (λ w. one-is (a .allowed) (a .d .now) (start .pre .1) (mask-set 2 (getD (a .d .now) 1 0) (w .left)) refl)
+    (c .if1 .came))
 
 pub one-edge-spec : {M : Type 1} → statement M
 one-edge-spec =
     tie.close
-    (tie.spec
-    (λ c. search needs)
-    (λ c κs. search needs)
-    (λ c. search needs)
-    returns
-    returns-2
-    (λ c κs. search needs)
-    (λ c κs. search needs)
-    returns-3
-    returns-4)
+    (tie.spec (λ c. search needs) (λ c κs. search needs) (λ c. search needs) (λ c κs. search needs) (λ c κs. search needs) returns returns-2)

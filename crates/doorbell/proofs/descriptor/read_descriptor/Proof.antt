@@ -16,7 +16,8 @@ many-edges-requires c κs =
 returns : tie.Need-returns
 returns c =
     let start = c .before .before .before .before .before .before in
-    admits-is (start .args .allowed) (start .args .d .now) (c .before .before .before .before .nmi-of .ensures) (c .before .before .before .level-of .ensures) (c .many-edges .ensures)
+    admits-is (start .args .allowed) (start .args .d .now) (c .before .before .before .before .nmi-of .ensures)
+    (c .before .before .before .level-of .ensures) (c .many-edges .ensures)
 
 one-edge-requires : tie.Need-one-edge-requires
 unfolding bitOf
@@ -27,7 +28,8 @@ one-edge-requires c κs =
 returns-2 : tie.Need-returns-2
 returns-2 c =
     let start = c .before .before .before .before .before .before in
-    admits-is (start .args .allowed) (start .args .d .now) (c .before .before .before .before .nmi-of .ensures) (c .before .before .before .level-of .ensures) (c .one-edge .ensures)
+    admits-is (start .args .allowed) (start .args .d .now) (c .before .before .before .before .nmi-of .ensures)
+    (c .before .before .before .level-of .ensures) (c .one-edge .ensures)
 
 pub read-descriptor-spec : {M : Type 1} → statement M
 read-descriptor-spec =

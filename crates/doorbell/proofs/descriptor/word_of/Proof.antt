@@ -7,9 +7,11 @@ use Rattle.doorbell.proofs.descriptor.word_of.Tie as tie
 
 returns : tie.Need-returns
 returns c =
+    let known = c .before .before .before .before in
+    let a = known .before .args in
     omega (
       arith,
-      word-bytes (c .before .before .before .before .before .args .d .now) (c .before .before .before .before .before .args .at) (λ i. omega (arith, c .before .before .before .before .shared-slice-known .given i)),
+      word-bytes (a .d .now) (a .at) (λ i. omega (arith, known .shared-slice-known .given i)),
       c .byte-at4 .ensures .0,
       c .before .byte-at3 .ensures .0,
       c .before .before .byte-at2 .ensures .0,

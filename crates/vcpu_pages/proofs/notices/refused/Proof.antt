@@ -1,6 +1,5 @@
 -- `vcpu_pages::notices::refused` meets its contract. Assumes nothing.
 use mathlib.Core.Path.{ap}
-use mathlib.Core.Bool.{true}
 use borrow.Author.Needs.{needs}
 use Rattle.model.specs.Doorbell.{Part}
 use Rattle.model.specs.Codes.{codeOf, refused}
@@ -10,7 +9,7 @@ use Rattle.vcpu_pages.proofs.notices.refused.Tie as tie
 
 returns : tie.Need-returns
 unfolding refusedNotice
-returns c = ap (λ (a : Part). record { result = refused (codeOf (c .before .args .c)); isRefused = true; part = a }) (c .nothing .ensures)
+returns c = ap (λ (a : Part). record { result = refused (codeOf (c .before .args .c)); part = a }) (c .nothing .ensures)
 
 pub refused-spec : {M : Type 1} → statement M
 refused-spec = tie.close (tie.spec (λ c κs. search needs) returns)

@@ -1,0 +1,122 @@
+//! The plain gate against `reference`, on its generated events: every answer, page and module.
+
+use plain::{InFlight, Outcome, Presentation, Set};
+use reference::events::{step, Answer, Event, Shown};
+use reference::generate::Generator;
+use reference::set::VectorSet;
+use reference::state::{Item, Module, Phase, Record};
+
+fn set(s: &Set) -> VectorSet {
+    let members: Vec<usize> = (0..256)
+        .filter(|v| s[v / 32] >> (v % 32) & 1 == 1)
+        .collect();
+    VectorSet::of(&members)
+}
+
+fn record(v: &plain::Vcpu) -> Record {
+    Record {
+        allowed: set(&v.allowed),
+        pending: set(&v.irr),
+        service: set(&v.isr),
+        pending_level: set(&v.irr_level),
+        serving_level: set(&v.isr_level),
+        nmi: v.nmi,
+        tpr: v.tpr,
+        icr: v.icr,
+        phase: match v.phase {
+            plain::Phase::Active => Phase::Active,
+            plain::Phase::Leaving => Phase::Leaving,
+            plain::Phase::Left => Phase::Left,
+        },
+        flight: match v.flight {
+            InFlight::Nothing => None,
+            InFlight::Nmi => Some(Item::Nmi),
+            InFlight::Vector(x) => Some(Item::Vector(x.into())),
+        },
+    }
+}
+
+fn module(m: &plain::Module) -> Module {
+    Module {
+        n: m.n,
+        vmpl: m.vmpl,
+        count: m.registrations,
+        records: m.vcpus[..m.n as usize].iter().map(record).collect(),
+    }
+}
+
+fn number(o: Outcome) -> Result<u64, u32> {
+    match o {
+        Outcome::Done(value) => Ok(value),
+        Outcome::Refused(r) => Err(r as u32),
+    }
+}
+
+fn small(o: Outcome) -> Result<u32, u32> {
+    number(o).map(|value| value as u32)
+}
+
+fn shown(p: Presentation) -> Result<Shown, u32> {
+    match p {
+        Presentation::Nothing => Ok(Shown::Nothing),
+        Presentation::Nmi => Ok(Shown::Presented(Item::Nmi)),
+        Presentation::Vector(v) => Ok(Shown::Presented(Item::Vector(v.into()))),
+        Presentation::Window(v) => Ok(Shown::Window(v.into())),
+        Presentation::Refused(r) => Err(r as u32),
+    }
+}
+
+fn played(m: &mut plain::Module, event: &mut Event) -> Answer {
+    match event {
+        Event::Start { n, vmpl } => {
+            let (outcome, started) = plain::start(*n, *vmpl);
+            *m = started;
+            Answer::Start(number(outcome).map(|_| ()))
+        }
+        Event::Notice { vcpu, page } => Answer::Notice(small(plain::notice(m, *vcpu, page))),
+        Event::Call {
+            vcpu,
+            call,
+            ecx,
+            rdx,
+        } => Answer::Call(number(plain::call(m, *vcpu, *call, *ecx, *rdx))),
+        Event::Entry {
+            vcpu,
+            if_set,
+            shadow,
+            blocked,
+        } => Answer::Entry(shown(plain::entry(m, *vcpu, *if_set, *shadow, *blocked))),
+        Event::NonDelivery { vcpu } => Answer::NonDelivery(small(plain::non_delivery(m, *vcpu))),
+        Event::HandBack {
+            vcpu,
+            if_set,
+            shadow,
+            page,
+        } => Answer::HandBack(small(plain::hand_back(m, *vcpu, page, *if_set, *shadow))),
+    }
+}
+
+#[test]
+fn agrees_on_generated_events() {
+    for seed in 1..=20 {
+        let mut generator = Generator::new(seed);
+        let mut theirs = Module::refused();
+        let mut ours = plain::start(0, 0).1;
+        for i in 0..10_000 {
+            let mut event = generator.next_event();
+            let (written, mut same) = (event.to_string(), event.clone());
+            let expected = step(&mut theirs, &mut same);
+            assert_eq!(
+                played(&mut ours, &mut event),
+                expected,
+                "seed {seed}, event {i}: {written}"
+            );
+            assert_eq!(event, same, "the page, seed {seed}, event {i}: {written}");
+            assert_eq!(
+                module(&ours),
+                theirs,
+                "the module, seed {seed}, event {i}: {written}"
+            );
+        }
+    }
+}

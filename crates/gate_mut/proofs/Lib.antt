@@ -1,0 +1,14 @@
+pub mod Address
+pub mod Answers
+pub mod OnModule
+pub mod Frame
+pub mod Lens
+pub mod Fields
+pub mod InPlace
+pub mod OnePage
+pub mod OneRecord
+pub mod Page
+pub mod Pass
+pub mod Record
+pub mod Served
+pub mod Walk

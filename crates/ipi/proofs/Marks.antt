@@ -1,0 +1,70 @@
+-- A posting makes its item pending. Assumes nothing.
+use mathlib.Core.Path.{_≡_, sym, ap, _∙_}
+use mathlib.Core.Bool.{Bool, true, false, cond, _||_}
+use mathlib.Core.List.{List}
+use Prim.Native.Nat.{ℕ, _/_, _%_, _<_}
+use native.Mathlib.Omega.{arith}
+use lib.Bits.{bitOr, or-zero-r}
+use lib.Dec.{eqb}
+use lib.ListN.{getD, set}
+use lib.Seq.{set-getD}
+use mir.Val.{Val}
+use denote.Laws.{Is}
+use denote.Enum.Laws as EL
+use Rattle.vector_set.proofs.Laws.{Words}
+use Rattle.vector_set.proofs.WordLaws.{one-shl, insert-word}
+use Rattle.model.specs.declared.Item.{Item}
+use Rattle.model.specs.declared.Item.the-variants.{Nmi, Vector}
+use Rattle.model.specs.declared.Vcpu.{Vcpu}
+use Rattle.model.specs.State.{withIrr, withNmi}
+use Rattle.model.specs.Items.{mark}
+use Rattle.model.specs.Ipi.{icrType, icrVector, icrItem}
+use Rattle.model.proofs.Item as I
+use Rattle.model.proofs.Item.Laws as I′
+use mathlib.Core.Bool.{or-true, or-false}
+use Rattle.ipi.specs.declared.Posting.{Posting}
+use Rattle.ipi.specs.Posts.{postingOf, Posted}
+
+-- the record with the word stored, with the mark stored, and with both
+abbrev pub wordIn : Posting → Vcpu → Vcpu
+wordIn p v = withIrr (set (v .irr) (p .word) (bitOr (getD (v .irr) (p .word) 0) (p .bits))) v
+
+abbrev pub markIn : Posting → Vcpu → Vcpu
+markIn p v = withNmi (v .nmi || p .nmi) v
+
+abbrev pub posted : Posting → Vcpu → Vcpu
+posted p v = markIn p (wordIn p v)
+
+-- an item's vector is a byte
+abbrev pub Byte : Item → Type 0
+Byte Nmi = Unit {0}
+Byte (Vector x) = x < 256
+
+pub byte-item : (y : Item) (vs : List Val) → Is I.the-row y vs → Byte y
+byte-item Nmi vs is = tt
+byte-item (Vector x) vs is = EL.owed I.the-type I′.the-laws (Vector x) vs is .0 .1
+
+pub byte-sent : (x : ℕ) → Byte (icrItem x)
+unfolding icrItem
+byte-sent x = pick (eqb (icrType x) 4)
+  where
+    pick : (t : Bool) → Byte (cond t Nmi (Vector (icrVector x)))
+    pick true = tt
+    pick false = omega arith
+
+pub word-small : (y : Item) → Byte y → postingOf y .word < 8
+unfolding postingOf
+word-small Nmi b = omega arith
+word-small (Vector x) b = omega (arith, b)
+
+pub posted-is : (p : Posting) (v : Vcpu) → p .word < 8 → Words (v .irr) → Posted p v (posted p v)
+unfolding postingOf mark
+posted-is p v l ws y e = rw e (of y (rw e at l))
+  where
+    of : (y : Item) → postingOf y .word < 8 → posted (postingOf y) v ≡ mark y v
+    of Nmi l = rw (or-zero-r (getD (v .irr) 0 0), set-getD (v .irr) 0 0, or-true (v .nmi))
+    of (Vector x) l =
+        rw (or-false (v .nmi))
+        (ap (λ (xs : List ℕ). withIrr xs v)
+        (ap (λ (y : ℕ). set (v .irr) (x / 32) (bitOr (getD (v .irr) (x / 32) 0) y)) (sym (one-shl (x % 32) (omega arith)))
+        ∙ insert-word (v .irr) x ws (omega (arith, l))))

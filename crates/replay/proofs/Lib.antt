@@ -1,0 +1,7 @@
+pub mod Arms
+pub mod Call
+pub mod Cell
+pub mod Lend
+pub mod OnModule
+pub mod Turn
+pub mod Values

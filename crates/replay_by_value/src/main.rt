@@ -1,0 +1,111 @@
+// Plays the trace on standard input on one module by value: what `replay` does in place, and it prints the same.
+use console::Answer;
+use console::front;
+use console::input::advance;
+use console::input::next_event;
+use console::report::report;
+use model::Entered;
+use model::Module;
+use model::Stepped;
+use trace::Event;
+
+// The module after an event, and the answer.
+struct Played {
+    module: Module,
+    answer: Answer,
+}
+
+fn silent(m: Module) -> Played {
+    Played {
+        module: m,
+        answer: Answer::Nothing,
+    }
+}
+
+fn stepped(s: Stepped) -> Played {
+    let module = s.after;
+    let outcome = s.outcome;
+    Played {
+        module,
+        answer: Answer::Outcome(outcome),
+    }
+}
+
+fn entered(e: Entered) -> Played {
+    let module = e.after;
+    let presentation = e.presentation;
+    Played {
+        module,
+        answer: Answer::Presentation(presentation),
+    }
+}
+
+// Plays one event on the module.
+fn play(module: Module, page: &mut [u8], event: Event) -> Played {
+    match event {
+        Event::Nothing => silent(module),
+        Event::Unreadable => silent(module),
+        Event::Start { n, vmpl } => stepped(gate_start::start(n, vmpl)),
+        Event::Notice { vcpu, length } => stepped(gate_pages::notice(
+            module,
+            vcpu,
+            front(page, length),
+        )),
+        Event::Call {
+            vcpu,
+            call,
+            ecx,
+            rdx,
+        } => stepped(gate_calls::call(module, vcpu, call, ecx, rdx)),
+        Event::Entry {
+            vcpu,
+            iflag,
+            shadow,
+            blocked,
+        } => entered(gate_entries::entry(module, vcpu, iflag, shadow, blocked)),
+        Event::NonDelivery { vcpu } => stepped(gate_entries::non_delivery(module, vcpu)),
+        Event::HandBack {
+            vcpu,
+            iflag,
+            shadow,
+            length,
+        } => stepped(gate_pages::hand_back(module, vcpu, front(page, length), iflag, shadow)),
+        Event::State => silent(module),
+    }
+}
+
+// A proved loop has to end, and nothing says that the input does: the turns are counted down from a number that no input
+// uses up.
+fn run(
+    first: Module,
+    chunk: &mut [u8; 65536],
+    line: &mut [u8; 65537],
+    page: &mut [u8; 4096],
+    out: &mut [u8; 65536],
+) {
+    let mut module = first;
+    let mut session = console::begin();
+    let mut turns = u64::MAX;
+    while turns > 0 {
+        session = advance(chunk, line, session);
+        let event = next_event(line, page, session);
+        let played = play(module, page, event);
+        module = played.module;
+        let answer = played.answer;
+        session = report(out, page, session, event, answer, module);
+        if !session.open {
+            return;
+        }
+        turns -= 1;
+    }
+}
+
+fn main() {
+    let mut chunk = io::large_buffer();
+    let mut line = [0u8; 65537];
+    let mut page = io::buffer();
+    let mut out = io::large_buffer();
+    let first = gate_start::start(0, 0);
+    let module = first.after;
+    run(module, &mut chunk, &mut line, &mut page, &mut out);
+}

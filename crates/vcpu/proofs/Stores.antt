@@ -1,0 +1,50 @@
+-- A record of a module stored and read again, and how many records there are.
+-- Assumes nothing.
+use mathlib.Core.Path.{_≡_, refl, ap}
+use mathlib.Core.Bool.{Bool, true, false, cond, _&&_}
+use mathlib.Core.List.{List, [], _∷_}
+use Prim.Native.Nat.{ℕ, zero, suc, _<_, _≤_}
+use native.Mathlib.Omega.{arith}
+use lib.Dec.{leb}
+use lib.ListN.{length, set, length-set}
+use lib.Seq.{getD-set-same, set-getD}
+use borrow.Author.Tests.{leb-true}
+use Rattle.model.specs.declared.Vcpu.{Vcpu}
+use Rattle.model.specs.declared.Module.{Module}
+use Rattle.model.specs.State.{absent, size, vcpuAt, withVcpu}
+
+abbrev pub withVcpus : Module → List Vcpu → Module
+withVcpus m l = record { n = m .n; vmpl = m .vmpl; registrations = m .registrations; vcpus = l }
+
+-- a record stored back as it was
+pub put-same : (m : Module) (i : ℕ) → withVcpu m i (vcpuAt m i) ≡ m
+unfolding withVcpu vcpuAt
+put-same m i = ap (withVcpus m) (set-getD (m .vcpus) i absent)
+
+pub get-put : (m : Module) (i : ℕ) (v : Vcpu) → i < length (m .vcpus) → vcpuAt (withVcpu m i v) i ≡ v
+unfolding withVcpu vcpuAt
+get-put m i v l = getD-set-same (m .vcpus) i v absent l
+
+-- a record stored to once more
+set-set : (l : List Vcpu) (i : ℕ) (u v : Vcpu) → set (set l i u) i v ≡ set l i v
+set-set [] i u v = refl
+set-set (w ∷ l) zero u v = refl
+set-set (w ∷ l) (suc i) u v = ap (λ (t : List Vcpu). w ∷ t) (set-set l i u v)
+
+pub put-put : (m : Module) (i : ℕ) (u v : Vcpu) → withVcpu (withVcpu m i u) i v ≡ withVcpu m i v
+unfolding withVcpu
+put-put m i u v = ap (withVcpus m) (set-set (m .vcpus) i u v)
+
+pub put-length : (m : Module) (i : ℕ) (v : Vcpu) → length (withVcpu m i v .vcpus) ≡ length (m .vcpus)
+unfolding withVcpu
+put-length m i v = length-set (m .vcpus) i v
+
+pub size-le : (m : Module) → size m ≤ 32
+unfolding size
+size-le m = pick (leb (m .n) 32) (leb 1 (m .vmpl)) (leb (m .vmpl) 3) refl
+  where
+    pick : (a b c : Bool) → leb (m .n) 32 ≡ a → cond (a && b && c) (m .n) 0 ≤ 32
+    pick true true true e = leb-true (m .n) 32 e
+    pick true true false e = omega arith
+    pick true false c e = omega arith
+    pick false b c e = omega arith

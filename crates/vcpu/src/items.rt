@@ -1,0 +1,27 @@
+// An item made pending in a record.
+ghost use mathlib.Core.Path.{_≡_};
+ghost use Prim.Native.Nat.{_<_};
+ghost use Rattle.model.specs.Items.{mark};
+ghost use Rattle.ipi.specs.Posts.{Posted};
+use ipi::Posting;
+use model::Item;
+use model::Vcpu;
+
+// What the events in place store, applied to a copy.
+pub fn post(v: Vcpu, posting: Posting) -> Vcpu
+    requires { ⌜ posting .word < 8 ⌝ }
+    ensures { λ r. ⌜ Posted posting v r ⌝ }
+{
+    let k = posting.word;
+    let mut w = v;
+    w.irr[k] = w.irr[k] | posting.bits;
+    w.nmi = w.nmi | posting.nmi;
+    w
+}
+
+// The item is pending (4.27, 7.17).
+pub fn post_item(v: Vcpu, item: Item) -> Vcpu
+    ensures { λ r. ⌜ r ≡ mark item v ⌝ }
+{
+    post(v, ipi::posting_of(item))
+}

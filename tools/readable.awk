@@ -1,0 +1,193 @@
+# A trace with its answers beside it, for a person to read. Input: the trace; `answers` is the file with what `replay` printed for it.
+#
+#     awk -v answers=OUTPUT -f tools/readable.awk TRACE
+#
+# Each line that is not passed over has one line of answers, but for `state`, which has one more for each vCPU.
+# The words are of this file; the numbers are the program's (docs/REPLAY.md).
+
+BEGIN {
+    COLUMN = 38
+    for (k = 0; k < 16; k++) DIGIT[substr("0123456789abcdef", k + 1, 1)] = k
+
+    WHY["0x1"] = "no such vCPU"
+    WHY["0x2"] = "page too short"
+    WHY["0x3"] = "not leaving"
+    WHY["0x4"] = "nothing in flight"
+    WHY["0x5"] = "n or VMPL out of range"
+    WHY["0x80000001"] = "not active"
+    WHY["0x80000002"] = "no such call"
+    WHY["0x80000003"] = "no such register for this"
+    WHY["0x80000005"] = "value or ECX not taken"
+    WHY["0x80000007"] = "count is at its most"
+    WHY["0x80001000"] = "count is 0"
+}
+
+# Decimal, or hexadecimal after 0x; exact where the numbers are that are asked here, up to 32 bits.
+function number(word,    k, value) {
+    if (substr(word, 1, 2) != "0x") return word + 0
+    word = tolower(substr(word, 3))
+    for (k = 1; k <= length(word); k++) value = 16 * value + DIGIT[substr(word, k, 1)]
+    return value + 0
+}
+
+# What comes beside or, where the line is long, below a line of the trace.
+function show(line, answer) {
+    if (length(line) < COLUMN) printf "%s%s-> %s\n", line, spaces(COLUMN - length(line)), answer
+    else printf "%s\n%s-> %s\n", line, spaces(COLUMN), answer
+}
+
+function spaces(n,    s) {
+    while (n-- > 0) s = s " "
+    return s
+}
+
+function refused(code) {
+    return "refused " code (code in WHY ? " (" WHY[code] ")" : "")
+}
+
+function next_answer(    line) {
+    if ((getline line < answers) <= 0) {
+        print "readable: the answers end before the trace" > "/dev/stderr"
+        broken = 1
+        exit 1
+    }
+    return line
+}
+
+# ---- guest calls
+
+function register(n) {
+    if (n == 2050) return "ID"
+    if (n == 2056) return "TPR"
+    if (n == 2058) return "PPR"
+    if (n == 2061) return "LDR"
+    if (n == 2096) return "ICR"
+    if (n >= 2064 && n < 2072) return "ISR word " (n - 2064)
+    if (n >= 2072 && n < 2080) return "TMR word " (n - 2072)
+    if (n >= 2080 && n < 2088) return "IRR word " (n - 2080)
+    return "register"
+}
+
+# The vCPUs whose bits are set, as vCPUs 0, 3-5.
+function reached(mask,    k, from, text) {
+    from = -1
+    for (k = 0; k <= 32; k++) {
+        if (mask % 2 == 1) {
+            if (from < 0) from = k
+        } else if (from >= 0) {
+            text = text (text == "" ? "" : ", ") (from == k - 1 ? from : from "-" (k - 1))
+            from = -1
+        }
+        mask = int(mask / 2)
+    }
+    return (text ~ /[-,]/ ? "vCPUs " : "vCPU ") text
+}
+
+function written(n, value) {
+    if (n == 2056) return "TPR written"
+    if (n == 2059) return value == "0x0" ? "EOI, none owed to the host" : "EOI, and one owed to the host for " value
+    if (n == 2111) return "IPI to itself"
+    return value == "0x0" ? "IPI that reaches nobody" : "IPI that reaches " reached(number(value))
+}
+
+function permitted(ecx) {
+    return (ecx % 256 == 2 ? "the NMI" : sprintf("0x%x", ecx % 256)) (ecx >= 256 ? " is allowed" : " is no longer allowed")
+}
+
+function called(call, ecx, value) {
+    if (call == 0) return "features " value
+    if (call == 1 && ecx == 0) return "ok, leaves if the count is 0"
+    if (call == 1 && ecx == 1) return "ok, count down, leaves if it is 0"
+    if (call == 1) return "ok, count up"
+    if (call == 2) return register(ecx) " is " value
+    if (call == 3) return written(ecx, value)
+    return permitted(ecx)
+}
+
+# ---- pages
+
+# The bytes that are not zero, from words OFFSET=BYTE, lowest offset first.
+function bytes_of(word, from, count,    k, at, offset, last, byte, text) {
+    last = -1
+    for (k = from; k <= count; k++) {
+        at = index(word[k], "=")
+        offset = number(substr(word[k], 1, at - 1))
+        byte[offset] = number(substr(word[k], at + 1))
+        if (offset > last) last = offset
+    }
+    for (k = 0; k <= last; k++) if (k in byte && byte[k] != 0) text = text sprintf(" 0x%x=0x%x", k, byte[k])
+    return text
+}
+
+function page(before, after) {
+    if (after == before) return "page as it was"
+    return after == "" ? "page now all 0" : "page now" after
+}
+
+function admitted(count) {
+    return (count == 0 ? "nothing" : count) " admitted"
+}
+
+function handed(value) {
+    return sprintf("handed back with TPR 0x%x, shadow %d, IF %d", int(value / 256) % 256, int(value / 2) % 2, value % 2)
+}
+
+# ---- the module
+
+function part(name, value, empty) {
+    return value == empty ? "" : ", " name " " value
+}
+
+function record(line,    word, n, k, at, field) {
+    n = split(line, word, " ")
+    for (k = 3; k <= n; k++) {
+        at = index(word[k], "=")
+        field[substr(word[k], 1, at - 1)] = substr(word[k], at + 1)
+    }
+    return "vCPU " number(word[2]) " " field["phase"] part("in flight", field["flight"], "nothing") (field["nmi"] == "0x0" ? "" : ", NMI pending") \
+        part("TPR", field["tpr"], "0x0") part("ICR", field["icr"], "0x0") part("allowed", field["allowed"], "{}") \
+        part("pending", field["pending"], "{}") part("of these level", field["pending_level"], "{}") \
+        part("in service", field["service"], "{}") part("of these level", field["serving_level"], "{}")
+}
+
+function show_module(line, first,    word, n, k) {
+    split(first, word, /[ =]/)
+    n = number(word[3])
+    show(line, n (n == 1 ? " vCPU" : " vCPUs") " at VMPL " number(word[5]) ", count " number(word[7]))
+    for (k = 0; k < n; k++) print spaces(COLUMN + 3) record(next_answer())
+}
+
+# ---- lines
+
+function answer_of(given, words, told, count,    text) {
+    if (told[1] == "error") return "unreadable (line " told[3] ")"
+    if (told[2] == "refused") text = refused(told[3])
+    else if (told[1] == "start") text = "ok"
+    else if (told[1] == "notice") text = admitted(number(told[3]))
+    else if (told[1] == "call") text = called(number(given[3]), number(given[4]), told[3])
+    else if (told[1] == "entry") text = told[2] == "nmi" ? "NMI" : told[2] (told[2] == "window" ? " for " : " ") told[3]
+    else if (told[1] == "nondelivery") text = "pending again"
+    else text = handed(number(told[3]))
+    if (told[1] == "notice") text = text "; " page(bytes_of(given, 4, words), bytes_of(told, 5, count))
+    if (told[1] == "handback") text = text "; " page(bytes_of(given, 6, words), bytes_of(told, 5, count))
+    sub(/ +$/, "", text)
+    return text
+}
+
+{ shown = $0; gsub(/[\001-\010\013-\037\177]/, "?", shown) }
+/^#/ || /^ *$/ { print shown; next }
+{
+    answer = next_answer()
+    if (answer ~ /^module /) { show_module(shown, answer); next }
+    words = split($0, given, " ")
+    count = split(answer, told, " ")
+    show(shown, answer_of(given, words, told, count))
+}
+
+END {
+    if (!broken && (getline answer < answers) > 0) {
+        print "readable: the trace ends before the answers" > "/dev/stderr"
+        exit 1
+    }
+    if (broken) exit 1
+}

@@ -10,11 +10,9 @@ use crate::LEVEL;
 use crate::MANY;
 use crate::NMI;
 use model::Admitted;
+use model::NMI_VECTOR;
 use vector_set::Found;
 use vector_set::LOWEST;
-
-// The vector by which the allowed set names the NMI (4.16).
-const NMI_VECTOR: u8 = 2;
 
 fn byte_at(d: &[u8], i: usize) -> u32
     requires { ⌜ i < length (now d) ⌝ }

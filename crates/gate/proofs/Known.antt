@@ -7,11 +7,10 @@ use native.Mathlib.Omega.{arith}
 use lib.Dec.{leb}
 use borrow.Author.Tests.{leb-true, leb-false}
 use Rattle.model.specs.declared.Module.{Module}
-use Rattle.model.specs.State.{size}
-use Rattle.gate.specs.Served.{servedCount}
+use Rattle.model.specs.State.{servedCount, size}
 
 pub size-is : (m : Module) → servedCount (m .n) (m .vmpl) ≡ size m
-unfolding servedCount size
+unfolding size
 size-is m = refl
 
 -- a vCPU that the test lets through or not

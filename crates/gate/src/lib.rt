@@ -2,7 +2,7 @@
 ghost use mathlib.Core.Path.{_≡_};
 ghost use lib.Dec.{leb};
 ghost use Rattle.model.specs.Codes.{codeOf};
-ghost use Rattle.gate.specs.Served.{servedCount};
+ghost use Rattle.model.specs.State.{servedCount};
 use model::Module;
 use model::Outcome;
 use model::Refusal;

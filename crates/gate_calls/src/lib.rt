@@ -9,15 +9,15 @@ use vcpu::Reply;
 mod ipis;
 
 // A guest call (sections 5 to 7).
-pub fn call(m: Module, vcpu: u32, call: u32, ecx: u32, rdx: u64) -> Stepped
-    ensures { λ r. ⌜ outOf r [] ≡ step m (at vcpu (Act.call call ecx rdx)) ⌝ }
+pub fn call(m: Module, vcpu: u32, number: u32, ecx: u32, rdx: u64) -> Stepped
+    ensures { λ r. ⌜ outOf r [] ≡ step m (at vcpu (Act.call number ecx rdx)) ⌝ }
 {
     if gate::lacks(m.n, m.vmpl, vcpu) {
         return gate::unknown(m);
     }
     let i = vcpu as usize;
     let v = m.vcpus[i];
-    let called = vcpu_calls::call_vcpu(v, vcpu, m.registrations, call, ecx, rdx);
+    let called = vcpu_calls::call_vcpu(v, vcpu, m.registrations, number, ecx, rdx);
     let w = called.vcpu;
     let reply = called.reply;
     let mut after = m;

@@ -27,11 +27,10 @@ use denote.Plain.{uint-tells, uint-makes}
 use denote.Signature.{plain}
 use denote.Exit.{yes}
 use denote.Triple.Statement.{Contract, Triple}
-use Rattle.model.specs.State.{size}
+use Rattle.model.specs.State.{servedCount, size}
 use Rattle.model.specs.declared.Module.{Module}
 use Rattle.model.proofs.Module.Laws as T′
 use Rattle.model.proofs.Refusal.Laws as F′
-use Rattle.gate.specs.Served.{servedCount}
 use Rattle.vcpu.proofs.Stores.{size-le}
 use Rattle.gate_mut.proofs.Answers.{typed-unknown}
 use Rattle.gate_mut.proofs.Frame.{cell, guards, ValueContract, asks}
@@ -39,7 +38,7 @@ use Rattle.gate_mut.proofs.Lens.{n-of, vmpl-of}
 use Rattle.gate_mut.proofs.Record.{Stands, reads-at, var-at, sets-at, lands-at, fresh}
 
 served-is : (h : Module) → servedCount (h .n) (h .vmpl) ≡ size h
-unfolding servedCount size
+unfolding size
 served-is h = refl
 
 -- what the test `n <= vcpu` tells, where n is the size

@@ -34,8 +34,8 @@ fn send_in(m: &mut Module, caller: u32, value: u64) -> u64
 }
 
 // A guest call (sections 5 to 7; 13.33). An IPI goes out once the caller's record and the count are stored.
-pub fn call_in(m: &mut Module, vcpu: u32, call: u32, ecx: u32, rdx: u64) -> Outcome
-    ensures { λ r. ⌜ outOf (record { outcome = r; after = now (m .exit) }) [] ≡ step (now (m .entry)) (at vcpu (Act.call call ecx rdx)) ⌝ }
+pub fn call_in(m: &mut Module, vcpu: u32, number: u32, ecx: u32, rdx: u64) -> Outcome
+    ensures { λ r. ⌜ outOf (record { outcome = r; after = now (m .exit) }) [] ≡ step (now (m .entry)) (at vcpu (Act.call number ecx rdx)) ⌝ }
 {
     let n = served(m.n, m.vmpl);
     if n <= vcpu {
@@ -43,7 +43,7 @@ pub fn call_in(m: &mut Module, vcpu: u32, call: u32, ecx: u32, rdx: u64) -> Outc
     }
     let i = vcpu as usize;
     let v = m.vcpus[i];
-    let called = call_vcpu(v, vcpu, m.registrations, call, ecx, rdx);
+    let called = call_vcpu(v, vcpu, m.registrations, number, ecx, rdx);
     m.vcpus[i] = called.vcpu;
     m.registrations = called.registrations;
     match called.reply {

@@ -4,6 +4,20 @@ ghost use Rattle.model.specs.Ipi.{icrType, icrShorthand, icrFixedBits, icrIsFix
 use model::Item;
 use model::Target;
 
+// The lowest bits of the type, of the shorthand and of the destination, and the bit of logical mode (7.3, 7.4, 7.6, 7.7).
+const TYPE_BIT: u64 = 8;
+
+const LOGICAL_BIT: u64 = 11;
+
+const SHORTHAND_BIT: u64 = 18;
+
+const DESTINATION_BIT: u64 = 32;
+
+// The bits for assertion and for the trigger mode, which are 1 and 0 (7.5).
+const ASSERT_BIT: u64 = 14;
+
+const TRIGGER_BIT: u64 = 15;
+
 // The types (7.3).
 const FIXED: u64 = 0;
 
@@ -22,21 +36,21 @@ const BROADCAST: u64 = 0xFFFF_FFFF;
 fn type_of(value: u64) -> u64
     ensures { λ r. ⌜ r ≡ icrType value ⌝ }
 {
-    (value >> 8) % 8
+    (value >> TYPE_BIT) % 8
 }
 
 fn shorthand_of(value: u64) -> u64
     ensures { λ r. ⌜ r ≡ icrShorthand value ⌝ }
 {
-    (value >> 18) % 4
+    (value >> SHORTHAND_BIT) % 4
 }
 
-// The bits that have one value only (7.5, 7.8).
+// The bits that have one value only; 12 and 13, 16 and 17, 20 to 31 are 0 (7.5, 7.8).
 fn has_fixed_bits(value: u64) -> bool
     ensures { λ r. ⌜ r ≡ icrFixedBits value ⌝ }
 {
-    (value >> 14) % 2 == 1
-        && (value >> 15) % 2 != 1
+    (value >> ASSERT_BIT) % 2 == 1
+        && (value >> TRIGGER_BIT) % 2 != 1
         && (value >> 12) % 4 == 0
         && (value >> 16) % 4 == 0
         && (value >> 20) % 4096 == 0
@@ -83,11 +97,11 @@ pub fn target_of(value: u64) -> Target
         ALL => Target::All,
         OTHERS => Target::Others,
         _ => {
-            let destination = value >> 32;
+            let destination = value >> DESTINATION_BIT;
             if destination == BROADCAST {
                 return Target::All;
             }
-            if (value >> 11) % 2 == 1 {
+            if (value >> LOGICAL_BIT) % 2 == 1 {
                 return Target::Logical(destination as u32);
             }
             Target::Physical(destination as u32)

@@ -23,17 +23,7 @@ use Rattle.model.proofs.Item as I
 use Rattle.model.proofs.Item.Laws as I′
 use mathlib.Core.Bool.{or-true, or-false}
 use Rattle.ipi.specs.declared.Posting.{Posting}
-use Rattle.ipi.specs.Posts.{postingOf, Posted}
-
--- the record with the word stored, with the mark stored, and with both
-abbrev pub wordIn : Posting → Vcpu → Vcpu
-wordIn p v = withIrr (set (v .irr) (p .word) (bitOr (getD (v .irr) (p .word) 0) (p .bits))) v
-
-abbrev pub markIn : Posting → Vcpu → Vcpu
-markIn p v = withNmi (v .nmi || p .nmi) v
-
-abbrev pub posted : Posting → Vcpu → Vcpu
-posted p v = markIn p (wordIn p v)
+use Rattle.ipi.specs.Posts.{postingOf, posted, Posted}
 
 -- an item's vector is a byte
 abbrev pub Byte : Item → Type 0

@@ -32,8 +32,8 @@ isInFlight Nothing = false
 isInFlight Nmi = true
 isInFlight (Vector v) = true
 
--- ---- a record by its parts: A, P, S, PL, SL, the NMI mark, TPR, ICR, the phase, what is in flight
--- the record with these parts (2.3, 2.8 to 2.12)
+-- ---- a record by its fields: A, P, S, PL, SL, the NMI mark, TPR, ICR, the phase, what is in flight
+-- the record with these fields (2.3, 2.8 to 2.12)
 abbrev pub vcpu : List ℕ → List ℕ → List ℕ → List ℕ → List ℕ → Bool → ℕ → ℕ → Phase → InFlight → Vcpu
 vcpu a p s pl sl nmi tpr icr ph fl =
     record {
@@ -61,7 +61,7 @@ fresh = bare Active
 abbrev pub absent : Vcpu
 absent = bare Left
 
--- a record with one part changed
+-- a record with one field changed
 abbrev pub withAllowed : List ℕ → Vcpu → Vcpu
 withAllowed x v = vcpu x (v .irr) (v .isr) (v .«irr_level») (v .«isr_level») (v .nmi) (v .tpr) (v .icr) (v .phase) (v .flight)
 
@@ -93,9 +93,12 @@ abbrev pub withFlight : InFlight → Vcpu → Vcpu
 withFlight x v = vcpu (v .allowed) (v .irr) (v .isr) (v .«irr_level») (v .«isr_level») (v .nmi) (v .tpr) (v .icr) (v .phase) x
 
 -- ---- the module
--- the n that a module value is answered with: 0 where n is over 32 or L is not 1 to 3 (2.15)
+-- how many vCPUs a module value with this n and L is answered for: none where n is over 32 or L is not 1 to 3 (2.15)
+abbrev pub servedCount : ℕ → ℕ → ℕ
+servedCount n l = cond (leb n 32 && leb 1 l && leb l 3) n 0
+
 unfoldable pub size : Module → ℕ
-size m = cond (leb (m .n) 32 && leb 1 (m .vmpl) && leb (m .vmpl) 3) (m .n) 0
+size m = servedCount (m .n) (m .vmpl)
 
 -- the record of the vCPU i (2.2)
 unfoldable pub vcpuAt : Module → ℕ → Vcpu

@@ -1,6 +1,9 @@
 // The state of the gate and what its events answer. What each event does is said in specs/; the crates above carry it out.
 use vector_set::Found;
 
+// The vector that stands for the NMI in an allowed set and in call 4 (2.4, 4.16, 5.17).
+pub const NMI_VECTOR: u8 = 2;
+
 // The phase of a vCPU.
 pub enum Phase {
     Active,

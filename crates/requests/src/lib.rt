@@ -5,13 +5,14 @@ ghost use Rattle.model.specs.Requests.{registration, readBy, writeBy, writeValu
 use apic::registers;
 use model::Kind;
 use model::Local;
+use model::NMI_VECTOR;
 use model::Refusal;
 use model::Request;
 
 pub mod kinds;
 
-// The vector that stands for the NMI in call 4 (5.17).
-const NMI: u32 = 2;
+// The bit of ECX by which call 4 allows the vector, and does not take it out (5.16).
+const ALLOW_BIT: u32 = 8;
 
 fn bad() -> Request
     ensures { λ r. ⌜ r ≡ Request.Refused Refusal.BadParameter ⌝ }
@@ -51,27 +52,31 @@ fn value_of(r: u32, x: u64) -> Request
     match r {
         registers::EOI => {
             if x == 0 {
-                return Request::Local(Local::Eoi);
+                Request::Local(Local::Eoi)
+            } else {
+                bad()
             }
-            bad()
         }
         registers::SELF_IPI => {
             if vector_set::is_vector(x) {
-                return Request::Local(Local::SelfIpi((x % 256) as u8));
+                Request::Local(Local::SelfIpi((x % 256) as u8))
+            } else {
+                bad()
             }
-            bad()
         }
         registers::TPR => {
             if x <= 255 {
-                return Request::Local(Local::SetTpr((x % 256) as u8));
+                Request::Local(Local::SetTpr((x % 256) as u8))
+            } else {
+                bad()
             }
-            bad()
         }
         registers::ICR => {
             if icr::is_legal(x) {
-                return Request::Icr(x);
+                Request::Icr(x)
+            } else {
+                bad()
             }
-            bad()
         }
         _ => Request::Refused(Refusal::BadRegister),
     }
@@ -95,7 +100,7 @@ fn is_nameable(ecx: u32) -> bool
     ensures { λ r. ⌜ r ≡ nameable ecx ⌝ }
 {
     let v = ecx % 256;
-    (v == NMI || vector_set::is_vector(v as u64)) && ecx < 512
+    (v == NMI_VECTOR as u32 || vector_set::is_vector(v as u64)) && ecx < 512
 }
 
 // Call 4 (5.15, 5.16).
@@ -106,17 +111,18 @@ fn permission_of(ecx: u32) -> Request
         return bad();
     }
     let v = (ecx % 256) as u8;
-    if (ecx >> 8) % 2 == 1 {
-        return Request::Local(Local::Allow(v));
+    if (ecx >> ALLOW_BIT) % 2 == 1 {
+        Request::Local(Local::Allow(v))
+    } else {
+        Request::Local(Local::Disallow(v))
     }
-    Request::Local(Local::Disallow(v))
 }
 
 // What a call asks for, or why it is refused before the count is looked at (5.1, 5.2, 11.14).
-pub fn request_of(call: u32, ecx: u32, rdx: u64) -> Request
-    ensures { λ r. ⌜ r ≡ requestOf call ecx rdx ⌝ }
+pub fn request_of(number: u32, ecx: u32, rdx: u64) -> Request
+    ensures { λ r. ⌜ r ≡ requestOf number ecx rdx ⌝ }
 {
-    match call {
+    match number {
         0 => Request::Local(Local::Features),
         1 => registration_of(ecx),
         2 => read_of(ecx),

@@ -2,7 +2,7 @@
 ghost use mathlib.Core.Path.{_≡_};
 ghost use Prim.Native.Nat.{_<_};
 ghost use Rattle.model.specs.Items.{mark};
-ghost use Rattle.ipi.specs.Posts.{Posted};
+ghost use Rattle.ipi.specs.Posts.{posted, Posted};
 use ipi::Posting;
 use model::Item;
 use model::Vcpu;
@@ -10,7 +10,7 @@ use model::Vcpu;
 // What the events in place store, applied to a copy.
 pub fn post(v: Vcpu, posting: Posting) -> Vcpu
     requires { ⌜ posting .word < 8 ⌝ }
-    ensures { λ r. ⌜ Posted posting v r ⌝ }
+    ensures { λ r. ⌜ (r ≡ posted posting v) × Posted posting v r ⌝ }
 {
     let k = posting.word;
     let mut w = v;

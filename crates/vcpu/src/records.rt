@@ -45,9 +45,9 @@ pub fn with_phase(v: Vcpu, phase: Phase) -> Vcpu
 }
 
 // A refused event leaves the record as it was (11.19).
-pub fn refused(vcpu: Vcpu, c: Refusal) -> VcpuStepped
-    ensures { λ r. ⌜ r ≡ record { outcome = Outcome.Refused c; vcpu = vcpu } ⌝ }
+pub fn refused(v: Vcpu, c: Refusal) -> VcpuStepped
+    ensures { λ r. ⌜ r ≡ record { outcome = Outcome.Refused c; vcpu = v } ⌝ }
 {
     let outcome = Outcome::Refused(c);
-    VcpuStepped { outcome, vcpu }
+    VcpuStepped { outcome, vcpu: v }
 }

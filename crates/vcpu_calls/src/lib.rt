@@ -179,14 +179,14 @@ fn store_icr(v: Vcpu, registrations: u8, x: u64) -> VcpuCalled
 }
 
 // A guest call of the vCPU id (section 5).
-pub fn call_vcpu(v: Vcpu, id: u32, registrations: u8, call: u32, ecx: u32, rdx: u64) -> VcpuCalled
-    ensures { λ r. ⌜ calledOut r ≡ callOn (vcpuVerdict id registrations v (Act.call call ecx rdx)) (requestOf call ecx rdx) id registrations v ⌝ }
+pub fn call_vcpu(v: Vcpu, id: u32, registrations: u8, number: u32, ecx: u32, rdx: u64) -> VcpuCalled
+    ensures { λ r. ⌜ calledOut r ≡ callOn (vcpuVerdict id registrations v (Act.call number ecx rdx)) (requestOf number ecx rdx) id registrations v ⌝ }
 {
     let phase = v.phase;
     let Phase::Active = phase else {
         return refused(Refusal::NotActive, v, registrations);
     };
-    let request = requests::request_of(call, ecx, rdx);
+    let request = requests::request_of(number, ecx, rdx);
     match request {
         Request::Local(o) => serve_local(v, id, registrations, o),
         Request::Icr(x) => store_icr(v, registrations, x),

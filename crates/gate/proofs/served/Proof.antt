@@ -4,12 +4,10 @@ use mathlib.Core.Bool.{true}
 use mathlib.Core.Logic.{⊎-elim}
 use lib.Dec.{leb}
 use borrow.Author.Tests.{le-leb, lt-leb}
-use Rattle.gate.specs.Served.{servedCount}
 use Rattle.gate.proofs.served.Statement.{statement}
 use Rattle.gate.proofs.served.Tie as tie
 
 returns : tie.Need-returns
-unfolding servedCount
 returns c =
     let l = c .before .before .before .args .vmpl in
     let low : leb 1 l ≡ true = c .before .if2 .taken in
@@ -17,7 +15,6 @@ returns c =
     rw (le-leb _ 32 (c .before .before .if1 .taken), low, high)
 
 returns-2 : tie.Need-returns-2
-unfolding servedCount
 returns-2 c =
     ⊎-elim (λ w. rw (le-leb _ 32 (w .0 .taken), w .1 .taken, w .2 .left))
     (⊎-elim (λ w. rw (le-leb _ 32 (w .0 .taken), w .1 .left)) (λ w. rw (lt-leb _ 32 (w .left))))

@@ -28,7 +28,7 @@ returns : tie.Need-returns
 returns c =
     let a = c .before .before .before .args in
     ap (λ (r : Stepped). outOf r []) (c .unknown .ensures)
-    ∙ sym (unknown (a .t1) (at (a .vcpu) (call (a .call) (a .ecx) (a .rdx)))
+    ∙ sym (unknown (a .t1) (at (a .vcpu) (call (a .number) (a .ecx) (a .rdx)))
     (not-known (a .t1) (a .vcpu) (c .before .before .lacks .ensures) (c .before .if1 .taken)))
 
 -- what the step gives, where its reply is z
@@ -45,7 +45,7 @@ returns-2 c =
     let r = c .before .before .before .before .call-vcpu in
     let o = c .before .reply .given in
     served-call (a .t1) (a .vcpu) (here e) _ (record-is (a .t1) (a .vcpu) _ (below-32 (a .t1) (here e)) l)
-    (a .call) (a .ecx) (a .rdx) (r .result .vcpu) (r .result .registrations) (resultOf (o .0 .0)) (given-as (r .result) (Gives (o .0 .0)) _ (o .1) (r .ensures))
+    (a .number) (a .ecx) (a .rdx) (r .result .vcpu) (r .result .registrations) (resultOf (o .0 .0)) (given-as (r .result) (Gives (o .0 .0)) _ (o .1) (r .ensures))
 
 returns-3 : tie.Need-returns-3
 unfolding withVcpu withRegistrations
@@ -57,7 +57,7 @@ returns-3 c =
     let o = c .before .before .reply2 .given in
     c .send .ensures
     ∙ sent-call (a .t1) (a .vcpu) (here e) _ (record-is (a .t1) (a .vcpu) _ (below-32 (a .t1) (here e)) l)
-    (a .call) (a .ecx) (a .rdx) (r .result .vcpu) (r .result .registrations) l (o .0 .0) (given-as (r .result) (Sends (o .0 .0)) _ (o .1) (r .ensures))
+    (a .number) (a .ecx) (a .rdx) (r .result .vcpu) (r .result .registrations) l (o .0 .0) (given-as (r .result) (Sends (o .0 .0)) _ (o .1) (r .ensures))
 
 pub call-spec : {M : Type 1} → statement M
 call-spec =

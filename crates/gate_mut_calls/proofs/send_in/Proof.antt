@@ -55,8 +55,8 @@ use Rattle.icr.proofs.item_of.Symbol as item-def
 use Rattle.icr.proofs.item_of.Symbol.{name as #item}
 use Rattle.icr.proofs.item_of.Met as item-thm
 use Rattle.ipi.specs.declared.Posting.{Posting}
-use Rattle.ipi.specs.Posts.{postingOf}
-use Rattle.ipi.proofs.Marks.{posted, posted-is, byte-sent, word-small}
+use Rattle.ipi.specs.Posts.{postingOf, posted}
+use Rattle.ipi.proofs.Marks.{posted-is, byte-sent, word-small}
 use Rattle.ipi.proofs.Posting as S
 use Rattle.ipi.proofs.Posting.Laws as S′
 use Rattle.ipi.proofs.targets_of.Symbol as targets-def

@@ -23,4 +23,4 @@ unfolding nameable
 returns-2 c = rw (← may-name (c .before), c .if2 .left)
 
 pub is-nameable-spec : {M : Type 1} → statement M
-is-nameable-spec = tie.close (tie.spec (λ c. search needs) (λ c κs. search needs) returns returns-2)
+is-nameable-spec = tie.close (tie.spec (λ c. search needs) (λ c. search needs) (λ c κs. search needs) returns returns-2)

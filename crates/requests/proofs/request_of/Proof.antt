@@ -41,7 +41,7 @@ returns-5 c =
 returns-6 : tie.Need-returns-6
 unfolding requestOf
 returns-6 c =
-    let x = c .before .args .call in
+    let x = c .before .args .number in
     let n = c .match .rest in
     rw (
       ne-eqb x 0 (n .0 .0 .0 .0 .1),

@@ -29,35 +29,35 @@ returns c = rw (c .before .match .keys1, eq-eqb _ 0 (c .if1 .taken))
 
 returns-2 : tie.Need-returns-2
 unfolding writeValue
-returns-2 c =
-    let x = c .before .before .before .args .x in
-    let e : isVector x ≡ true = sym (c .before .is-vector .ensures) ∙ c .if2 .taken in
-    rw (c .before .before .match .keys2, e, low-byte x (vector-le x e))
+returns-2 c = rw (c .before .before .match .keys1, ne-eqb _ 0 (c .before .if1 .left)) (c .bad .ensures)
 
 returns-3 : tie.Need-returns-3
 unfolding writeValue
 returns-3 c =
-    let x = c .before .before .args .x in
-    rw (c .before .match .keys3, le-leb x 255 (c .if3 .taken), low-byte x (c .if3 .taken))
+    let x = c .before .before .before .args .x in
+    let e : isVector x ≡ true = sym (c .before .is-vector .ensures) ∙ c .if2 .taken in
+    rw (c .before .before .match .keys2, e, low-byte x (vector-le x e))
 
 returns-4 : tie.Need-returns-4
 unfolding writeValue
-returns-4 c = rw (c .before .before .match .keys4, ← c .before .is-legal .ensures, c .if4 .taken)
-
-returns-5 : tie.Need-returns-5
-unfolding writeValue
-returns-5 c = rw (c .before .before .match .keys1, ne-eqb _ 0 (c .before .if1 .left)) (c .bad .ensures)
-
-returns-6 : tie.Need-returns-6
-unfolding writeValue
-returns-6 c =
+returns-4 c =
     let x = c .before .before .before .before .args .x in
     let e : isVector x ≡ false = sym (c .before .before .is-vector .ensures) ∙ c .before .if2 .left in
     rw (c .before .before .before .match .keys2, e) (c .bad2 .ensures)
 
+returns-5 : tie.Need-returns-5
+unfolding writeValue
+returns-5 c =
+    let x = c .before .before .args .x in
+    rw (c .before .match .keys3, le-leb x 255 (c .if3 .taken), low-byte x (c .if3 .taken))
+
+returns-6 : tie.Need-returns-6
+unfolding writeValue
+returns-6 c = rw (c .before .before .match .keys3, lt-leb _ _ (c .before .if3 .left)) (c .bad3 .ensures)
+
 returns-7 : tie.Need-returns-7
 unfolding writeValue
-returns-7 c = rw (c .before .before .match .keys3, lt-leb _ _ (c .before .if3 .left)) (c .bad3 .ensures)
+returns-7 c = rw (c .before .before .match .keys4, ← c .before .is-legal .ensures, c .if4 .taken)
 
 returns-8 : tie.Need-returns-8
 unfolding writeValue
@@ -74,18 +74,18 @@ pub value-of-spec : {M : Type 1} → statement M
 value-of-spec =
     tie.close
     (tie.spec
+    (λ c κs. search needs)
+    (λ c κs. search needs)
+    (λ c. search needs)
+    (λ c κs. search needs)
+    (λ c. search needs)
+    (λ c κs. search needs)
+    (λ c κs. search needs)
+    (λ c κs. search needs)
     returns
-    (λ c κs. search needs)
-    (λ c κs. search needs)
-    (λ c. search needs)
     returns-2
-    (λ c κs. search needs)
-    (λ c. search needs)
     returns-3
-    (λ c κs. search needs)
-    (λ c κs. search needs)
     returns-4
-    (λ c κs. search needs)
     returns-5
     returns-6
     returns-7

@@ -14,7 +14,7 @@ use Rattle.vcpu_calls.proofs.call_vcpu.Tie as tie
 returns : tie.Need-returns
 returns c =
     let a = c .before .before .args in
-    not-asked (a .id) (a .registrations) (a .call) (a .ecx) (a .rdx) (a .v) (c .refused .result)
+    not-asked (a .id) (a .registrations) (a .number) (a .ecx) (a .rdx) (a .v) (c .refused .result)
     (not-active (a .v .phase) (c .before .match .keys2)) (c .refused .ensures)
 
 returns-2 : tie.Need-returns-2
@@ -22,7 +22,7 @@ unfolding callVerdict
 returns-2 c =
     let a = c .before .before .before .before .before .before .before .args in
     let q = c .before .before .request in
-    asked (a .id) (a .registrations) (a .call) (a .ecx) (a .rdx) (a .v) _ (request.Local (q .given .0 .0)) (c .serve-local .result)
+    asked (a .id) (a .registrations) (a .number) (a .ecx) (a .rdx) (a .v) _ (request.Local (q .given .0 .0)) (c .serve-local .result)
     (c .before .before .before .before .before .enum-told .given .1) (c .before .before .before .before .request-of .ensures) (q .given .1)
     (c .serve-local .ensures)
 
@@ -31,7 +31,7 @@ unfolding callOn callEffect callVerdict
 returns-3 c =
     let a = c .before .before .before .before .before .before .before .args in
     let q = c .before .before .request2 in
-    asked (a .id) (a .registrations) (a .call) (a .ecx) (a .rdx) (a .v) _ (request.Icr (q .given .0 .0)) (c .store-icr .result)
+    asked (a .id) (a .registrations) (a .number) (a .ecx) (a .rdx) (a .v) _ (request.Icr (q .given .0 .0)) (c .store-icr .result)
     (c .before .before .before .before .before .enum-told .given .1) (c .before .before .before .before .request-of .ensures) (q .given .1)
     (c .store-icr .ensures)
 
@@ -40,7 +40,7 @@ unfolding callOn callEffect callVerdict
 returns-4 c =
     let a = c .before .before .before .before .before .before .before .args in
     let q = c .before .before .request3 in
-    asked (a .id) (a .registrations) (a .call) (a .ecx) (a .rdx) (a .v) _ (request.Refused (q .given .0 .0)) (c .refused2 .result)
+    asked (a .id) (a .registrations) (a .number) (a .ecx) (a .rdx) (a .v) _ (request.Refused (q .given .0 .0)) (c .refused2 .result)
     (c .before .before .before .before .before .enum-told .given .1) (c .before .before .before .before .request-of .ensures) (q .given .1)
     (ap calledOut (c .refused2 .ensures))
 

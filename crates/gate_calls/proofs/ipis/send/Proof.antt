@@ -88,7 +88,7 @@ turned c =
       ap (λ (h : Module). length (h .vcpus)) (w .2) ∙ length-set (g r .vcpus) (k r) _ ∙ all,
       ap₂ sentTo (w .3) (w .2)
           ∙ reached (a .caller) (a .value) (k r) (below (turn r)) (g r) b (targets .result) (targets .ensures) (r .reaches .result) (told r) (w .0 .taken)
-          (post-of r .posting-of .result) (posts (post-of r)) (w .1 .result) (λ y e. w .1 .ensures y e ∙ ap (mark y) (there r _)),
+          (post-of r .posting-of .result) (posts (post-of r)) (w .1 .result) (λ y e. w .1 .ensures .1 y e ∙ ap (mark y) (there r _)),
     ))
     (λ w. (
       ap (λ (h : Module). length (h .vcpus)) (w .1) ∙ all,

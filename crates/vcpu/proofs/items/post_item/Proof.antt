@@ -5,7 +5,7 @@ use Rattle.vcpu.proofs.items.post_item.Statement.{statement}
 use Rattle.vcpu.proofs.items.post_item.Tie as tie
 
 returns : tie.Need-returns
-returns c = c .post .ensures (c .before .before .args .item) (c .before .posting-of .ensures)
+returns c = c .post .ensures .1 (c .before .before .args .item) (c .before .posting-of .ensures)
 
 pub post-item-spec : {M : Type 1} → statement M
 post-item-spec =

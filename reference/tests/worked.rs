@@ -1,10 +1,10 @@
-//! The cases worked here (14.21 to 14.41), on an implementation that was written apart from the definitions.
+//! The cases worked here (14.21 to 14.43), on an implementation that was written apart from the definitions.
 
 mod common;
 
 use common::*;
 use reference::calls::call;
-use reference::codes::{BAD_VALUE, SHORT_PAGE, UNKNOWN_VCPU};
+use reference::codes::{BAD_VALUE, NOTHING_IN_FLIGHT, SHORT_PAGE, UNKNOWN_VCPU};
 use reference::events::{entry, hand_back, non_delivery, notice, Shown};
 use reference::registers::{kind, Kind};
 use reference::state::{Item, Module, Phase};
@@ -209,6 +209,21 @@ fn what_holds_an_item_back() {
         entry(&mut pending(true), 0, true, true, false),
         Ok(Shown::Window(0x41))
     );
+}
+
+/// 14.42, 14.43
+#[test]
+fn what_an_entry_leaves() {
+    let mut m = fresh(2, 1);
+    m.records[0].pending = set(&[0x41]);
+    m.records[0].tpr = 0x3F;
+    assert_eq!(entry(&mut m, 0, true, false, false), Ok(presented(0x41)));
+    let mut looked = m.clone();
+    for (register, value) in [(0x822, 0), (0x812, 2)] {
+        assert_eq!(read(&mut looked, 0, register), Ok(value));
+    }
+    assert_eq!(entry(&mut m, 0, true, false, false), Ok(Shown::Nothing));
+    assert_eq!(non_delivery(&mut m, 0), Err(NOTHING_IN_FLIGHT));
 }
 
 /// 14.36

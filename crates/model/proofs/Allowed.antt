@@ -5,17 +5,14 @@ use mathlib.Core.Bool.{Bool, true, false, cond, _&&_, _||_, or-false, and-eq-tru
 use mathlib.Core.List.{List}
 use mathlib.Core.Option.{Option, none, some}
 use Prim.Native.Nat.{ℕ, _≤_}
-use lib.Dec.{leb, ltb}
+use lib.Dec.{leb}
 use borrow.Author.Tests.{eqb-true, leb-true}
 use Rattle.model.specs.declared.Item.{Item}
 use Rattle.model.specs.declared.Item.the-variants as item
-use Rattle.model.specs.State.{isActive}
-use Rattle.model.specs.Items.{InRange, memberOf}
-use Rattle.model.specs.Doorbell.{longEnough, bitOf, announces, descriptor, vectorField, nmiBit, levelBit, isVector}
+use Rattle.model.specs.Items.{InRange, IsVector, memberOf}
+use Rattle.model.specs.Doorbell.{bitOf, announces, descriptor, vectorField, nmiBit, levelBit, isVector}
 use Rattle.model.specs.Doorbell.{inPart, noPart, isLevel, admitsNmi, admitsLevel, admitsEdge, admits, admitted}
-use Rattle.model.specs.Events.{Bytes, Event}
-use Rattle.model.specs.Book.{Book, recordAt, noticePage, partOn, partBy}
-use Rattle.model.specs.Demand3.{IsVector}
+use Rattle.model.specs.Events.{Bytes}
 use Rattle.vector_set.specs.Sets.{has, empty}
 use Rattle.vector_set.proofs.Laws.{clash, has-collect, has-empty}
 
@@ -25,7 +22,7 @@ unfolding noPart
 none-in item.Nmi r = refl
 none-in (item.Vector v) r = or-false (has empty v) ∙ has-empty v r
 
-none-admitted : {A : Type 0} (x : Item) → InRange x → inPart x noPart ≡ true → A
+pub none-admitted : {A : Type 0} (x : Item) → InRange x → inPart x noPart ≡ true → A
 none-admitted x r h = let z = none-in x r in clash (cc)
 
 pub is-vector : (x : ℕ) → isVector x ≡ true → 31 ≤ x
@@ -69,16 +66,3 @@ admitted-fits l a p x r = pick (announces l p)
     pick : (b : Bool) → inPart x (cond b (admits a (descriptor l p)) noPart) ≡ true → Fits a x
     pick true h = admits-fits a (descriptor l p) x r h
     pick false h = none-admitted x r h
-
--- what an event admits by the book, under the book's set of its vCPU
-pub part-fits : (l : ℕ) (w : Book) (e : Event) (x : Item) → InRange x → inPart x (partBy l w e) ≡ true → Fits (recordAt w (e .vcpu) .allowed) x
-unfolding partOn
-part-fits l w e x r h = over (noticePage (e .act)) h
-  where
-    pick : (p : Bytes) (b : Bool) → inPart x (cond b (admitted l (recordAt w (e .vcpu) .allowed) p) noPart) ≡ true → Fits (recordAt w (e .vcpu) .allowed) x
-    pick p true h = admitted-fits l (recordAt w (e .vcpu) .allowed) p x r h
-    pick p false h = none-admitted x r h
-
-    over : (o : Option Bytes) → inPart x (partOn l w (e .vcpu) o) ≡ true → Fits (recordAt w (e .vcpu) .allowed) x
-    over none h = none-admitted x r h
-    over (some p) h = pick p (ltb (e .vcpu) (w .n) && isActive (recordAt w (e .vcpu) .phase) && longEnough p) h

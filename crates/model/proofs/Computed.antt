@@ -11,22 +11,17 @@ use Rattle.model.specs.Doorbell.{admitted, items, clearsBit, clears, not
 use Rattle.model.specs.Registers.{isRead, isWrite, isBoth, kindOf, pprOf, ppr, ldr, tmr, registerValue, endedAt, ended, endedLevelAt, endedLevel}
 use Rattle.model.specs.Requests.{registration, writeValue, nameable, permission, requestOf, serve, callVerdict}
 use Rattle.model.specs.Events.{noticed, offerHighest, offer, present, entered, emptied, handed, handBackResult}
-use Rattle.model.specs.Events.{vcpuVerdict, verdict, callEffect, effect, concluded, step, run, giveBack, undelivered}
-use Rattle.model.specs.Book.{bookOf, recordAt, withRecord, withCount, leavesAtZero, takesOne}
-use Rattle.model.specs.Book.{addsOne, registers, permits, called, leaves, feedAct, partOn}
-use Rattle.model.specs.Lists.{results, handBackPages, pages, struck, notices}
-use Rattle.model.specs.Ledger.{writeSends, postAct, ledger}
+use Rattle.model.specs.Events.{vcpuVerdict, verdict, callEffect, effect, concluded, step, giveBack, undelivered}
 use Rattle.model.specs.Cases.{cases, Starred}
-use Rattle.model.specs.Worked.{further, listed, Worked}
+use Rattle.model.specs.Worked.{further, Worked}
 use Rattle.model.specs.Ipi.{icrFixedBits, icrIsFixed, icrIsNmi, icrLegal, icrItem, icrTarget, hits, reach, mapFrom, sent, reachedBits}
 
 pub worked : Worked
-unfolding Starred cases further listed bookOf recordAt withRecord withCount leavesAtZero takesOne addsOne registers permits called leaves feedAct
-    partOn results handBackPages pages struck writeSends postAct ledger run giveBack undelivered icrFixedBits icrIsFixed icrIsNmi icrLegal icrItem
+unfolding Starred cases further giveBack undelivered icrFixedBits icrIsFixed icrIsNmi icrLegal icrItem
     icrTarget hits reach mapFrom sent reachedBits bits has words collect empty full insert remove union difference highestBelow highest countBelow
     count isEmpty wordOf bare size vcpuAt started start stopped withVcpu withRegistrations mark unmark markAll unmarkAll bitOf bytesFrom mapBits
     announces descriptor noPart admitsNmi admitsLevel admitsEdge admits admitted items clearsBit clears noticedPage handedBit servingBit handedBytes
     written isRead isWrite isBoth kindOf pprOf ppr ldr tmr registerValue endedAt ended endedLevelAt endedLevel registration writeValue nameable
     permission requestOf serve callVerdict noticed offerHighest offer present entered emptied handed handBackResult vcpuVerdict verdict callEffect
     effect concluded step
-worked = record { starred = refl; further = refl; listed = refl; different = notices refl }
+worked = record { starred = refl; further = refl }

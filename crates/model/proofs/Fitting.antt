@@ -14,7 +14,7 @@ use Rattle.model.specs.declared.Request.the-variants as request
 use Rattle.model.specs.Registers.{kindOf}
 use Rattle.model.specs.Ipi.{icrVector, icrType, icrShorthand, icrIsFixed, icrIsNmi, icrFixedBits, icrLegal, icrItem}
 use Rattle.model.specs.Requests.{registration, readBy, writeValue, writeBy, mayName, nameable, permission, requestOf}
-use Rattle.model.specs.Demand3.{IsVector}
+use Rattle.model.specs.Items.{IsVector}
 use Rattle.vector_set.specs.Bits.{bitAt}
 use Rattle.vector_set.proofs.Laws.{clash}
 use Rattle.vector_set.specs.Sets.{isVector}

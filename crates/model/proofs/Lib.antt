@@ -2,15 +2,8 @@ pub mod Tests
 pub mod Bytes
 pub mod Stored
 pub mod ItemLaws
-pub mod BookLaws
-pub mod FollowCalls
-pub mod Follow
 pub mod Stays
-pub mod Alike
 pub mod Allowed
-pub mod Pending
-pub mod Sends
-pub mod Bound
 pub mod LevelledLaws
 pub mod Fitting
 pub mod SoundRecords
@@ -19,5 +12,4 @@ pub mod Kept
 pub mod ReadBack
 pub mod Demand1
 pub mod Demand2
-pub mod Demand3
 pub mod Computed

@@ -14,7 +14,7 @@ use Rattle.model.specs.State.{bare, fresh, absent, size, vcpuAt, mayStar
 use Rattle.model.specs.Ipi.{icrItem, icrTarget, reach, mapFrom, sent}
 use Rattle.model.specs.Events.{Event, Reply, gives, sends, effectOf, concluded, deliver, next, final}
 use Rattle.model.specs.Reached.{Sound}
-use Rattle.model.specs.Demand3.{IsVector}
+use Rattle.model.specs.Items.{IsVector}
 use Rattle.vector_set.proofs.Laws.{words-empty}
 use Rattle.model.proofs.Stored.{by-reach, by-verdict, known-of}
 use Rattle.model.proofs.LevelledLaws.{levelled-empty}

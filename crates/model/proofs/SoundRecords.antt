@@ -21,7 +21,7 @@ use Rattle.model.specs.declared.Request.the-variants as request
 use Rattle.model.specs.declared.Vcpu.{Vcpu}
 use Rattle.model.specs.State.{isActive, isLeaving}
 use Rattle.model.specs.Codes.{Answer, nothing, presents, window}
-use Rattle.model.specs.Items.{itemInFlight, mark, unmark, markAll, unmarkAll}
+use Rattle.model.specs.Items.{IsVector, itemInFlight, mark, unmark, markAll, unmarkAll}
 use Rattle.model.specs.Doorbell.{Part, isLevel, inPart, admitted}
 use Rattle.model.specs.Registers.{ppr, class, endedAt, ended}
 use Rattle.model.specs.Ipi.{icrItem}
@@ -29,7 +29,6 @@ use Rattle.model.specs.Requests.{mayName, nameable, requestOf, forget, l
 use Rattle.model.specs.Events.{Act, notice, call, entry, nonDelivery, handBack, Bytes, noticed, offerHighest, offer, present}
 use Rattle.model.specs.Events.{entered, giveBack, undelivered, emptied, Reply, gives, sends, callEffect, effect}
 use Rattle.model.specs.Reached.{Levelled, Sound}
-use Rattle.model.specs.Demand3.{IsVector}
 use Rattle.vector_set.specs.Sets.{Words, has, empty, insert, remove, highest}
 use Rattle.vector_set.proofs.Laws.{clash, has-empty, has-insert, has-remove, words-empty, words-insert, words-remove, highest-has}
 use Rattle.model.proofs.Stored.{servedIn}

@@ -3,7 +3,7 @@
 use mathlib.Core.Bool.{Bool, true, false, _||_}
 use mathlib.Core.List.{List}
 use mathlib.Core.Option.{Option, none, some}
-use Prim.Native.Nat.{ℕ, _<_}
+use Prim.Native.Nat.{ℕ, _<_, _≤_}
 use lib.Dec.{eqb}
 use Rattle.model.specs.declared.InFlight.{InFlight}
 use Rattle.model.specs.declared.InFlight.the-variants as flight
@@ -17,6 +17,11 @@ use Rattle.vector_set.specs.Sets.{has, collect, empty, insert, remove}
 abbrev pub InRange : Item → Type 0
 InRange Nmi = Unit {0}
 InRange (Vector v) = v < 256
+
+-- a vector is at least 31
+abbrev pub IsVector : Item → Type 0
+IsVector Nmi = Unit {0}
+IsVector (Vector v) = 31 ≤ v
 
 -- the item is the NMI
 abbrev pub isNmi : Item → Bool

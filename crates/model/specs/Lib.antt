@@ -7,12 +7,8 @@ pub mod Ipi
 pub mod Requests
 pub mod Events
 pub mod Causes
-pub mod Book
-pub mod Lists
-pub mod Ledger
 pub mod Reached
 pub mod Demand1
 pub mod Demand2
-pub mod Demand3
 pub mod Cases
 pub mod Worked

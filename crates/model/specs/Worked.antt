@@ -1,11 +1,11 @@
--- Further worked cases (14.21 to 14.41), for what no claim says otherwise, and all cases in one proposition.
+-- Further worked cases (14.21 to 14.40, 14.42, 14.43), for what no claim says otherwise, and all cases of single events in one proposition.
 -- Assumes nothing.
 use mathlib.Core.Path.{_≡_}
 use mathlib.Core.Bool.{Bool, true, false, not, _&&_}
 use mathlib.Core.List.{List, [], _∷_}
 use Prim.Native.Nat.{ℕ, zero, suc, _+_}
 use lib.Dec.{eqb}
-use lib.ListN.{length, replicate, set}
+use lib.ListN.{replicate, set}
 use Rattle.model.specs.declared.Phase.{Phase}
 use Rattle.model.specs.declared.Phase.the-variants.{Active, Leaving, Left}
 use Rattle.model.specs.declared.Item.{Item}
@@ -13,15 +13,13 @@ use Rattle.model.specs.declared.Item.the-variants as item
 use Rattle.model.specs.declared.Vcpu.{Vcpu}
 use Rattle.model.specs.declared.Module.{Module}
 use Rattle.vector_set.specs.Sets.{empty, insert}
-use Rattle.model.specs.Items.{sameItem, isItem}
+use Rattle.model.specs.Items.{sameItem}
 use Rattle.model.specs.State.{vcpuAt, start, withIrr, withIsr, withIrrLevel, withIsrLevel, withNmi, withTpr, withPhase}
 use Rattle.model.specs.Codes.{Answer, nothing, presents, window, Result, done, answers, refused}
 use Rattle.model.specs.Registers.{kindOf}
 use Rattle.model.specs.Causes.{isKindNone, isKindRead, isKindWrite}
 use Rattle.model.specs.declared.Kind.{Kind}
 use Rattle.vector_set.specs.Bits.{one}
-use Rattle.model.specs.Lists.{results, pages, struck, Alike}
-use Rattle.model.specs.Ledger.{Ledger, ledgerOf}
 use Rattle.model.specs.Events.{notice, call, entry, nonDelivery, handBack, at, Event, Out, step, next}
 use Rattle.model.specs.Cases.{sameNumbers, gives, isRefused, isIdle, isNothing, fresh2, having, record0, singleton, zeros}
 use Rattle.model.specs.Cases.{announcing, byte64, onPage, resultOn, level61, pending41, every, Starred}
@@ -49,11 +47,11 @@ mixed =
 abbrev nested : Module
 nested = having (withIsrLevel (singleton 0x41) (withIsr (insert 0x61 (singleton 0x41)) record0))
 
-abbrev eoi : Event
+abbrev pub eoi : Event
 eoi = at 0 (call 3 0x80B 0)
 
 -- an ICR write by vCPU 0, of 2 and of 18
-abbrev icr : ℕ → Event
+abbrev pub icr : ℕ → Event
 icr x = at 0 (call 3 0x830 x)
 
 abbrev refuses : ℕ → Bool
@@ -70,23 +68,23 @@ abbrev kinds : (Kind → Bool) → ℕ → ℕ → ℕ
 kinds t r zero = 0
 kinds t r (suc n) = one (t (kindOf (r + n))) + kinds t r n
 
-abbrev isShown : Item → Answer → Bool
+abbrev pub isShown : Item → Answer → Bool
 isShown x nothing = false
 isShown x (presents y) = sameItem x y
 isShown x (window w) = false
 
-abbrev isWindow : ℕ → Answer → Bool
+abbrev pub isWindow : ℕ → Answer → Bool
 isWindow v nothing = false
 isWindow v (presents y) = false
 isWindow v (window w) = eqb v w
 
 -- the answer of an entry
-abbrev answersBy : (Answer → Bool) → Result → Bool
+abbrev pub answersBy : (Answer → Bool) → Result → Bool
 answersBy t (done x) = false
 answersBy t (answers a) = t a
 answersBy t (refused c) = false
 
-abbrev enters : Bool → Bool → Bool → Event
+abbrev pub enters : Bool → Bool → Bool → Event
 enters iF sh bl = at 0 (entry iF sh bl)
 
 abbrev nmi41 : Module
@@ -95,6 +93,10 @@ nmi41 = having (withNmi true (withIrr (singleton 0x41) record0))
 -- the module of case 14.8 after an entry and a non-delivery
 abbrev given61 : Module
 given61 = next (next level61 (enters true false false)) (at 0 nonDelivery)
+
+-- the module of case 14.10 after the entry that presents
+abbrev shown41 : Module
+shown41 = next (pending41 0x3F) (enters true false false)
 
 -- a notice of the NMI, allowed, and an NMI from vCPU 0 to the others
 abbrev nmiNotice : Out
@@ -203,73 +205,15 @@ further =
     ∷ gives 0 (resultOn fresh2 (at 0 (call 0 7 7)))
     ∷ gives 0 (resultOn fresh2 (at 0 (call 1 0 7)))
     ∷ gives 0 (resultOn fresh2 (at 0 (call 1 2 7)))
-    ∷ []
-
--- ---- a worked list (14.41), on one vCPU
-abbrev story : List Event
-story =
-    at 0 (call 4 0x141 0)
-    ∷ at 0 (notice byte64)
-    ∷ enters true false false
-    ∷ at 0 nonDelivery
-    ∷ enters true false false
-    ∷ at 0 (call 3 0x83F 0x41)
-    ∷ icr 0x0041
-    ∷ eoi
-    ∷ enters true false false
-    ∷ at 0 (notice [])
-    ∷ at 1 nonDelivery
-    ∷ at 0 (call 1 1 0)
-    ∷ at 0 (handBack zeros true false)
-    ∷ []
-
--- equal results
-abbrev sameAnswer : Answer → Answer → Bool
-sameAnswer nothing b = isIdle b
-sameAnswer (presents y) b = isShown y b
-sameAnswer (window v) b = isWindow v b
-
-abbrev sameResult : Result → Result → Bool
-sameResult (done x) r = gives x r
-sameResult (answers a) r = answersBy (sameAnswer a) r
-sameResult (refused c) r = isRefused c r
-
-abbrev sameResults : List Result → List Result → Bool
-sameResults [] [] = true
-sameResults [] (s ∷ ss) = false
-sameResults (r ∷ rs) [] = false
-sameResults (r ∷ rs) (s ∷ ss) = sameResult r s && sameResults rs ss
-
-abbrev samePages : List (List ℕ) → List (List ℕ) → Bool
-samePages [] [] = true
-samePages [] (q ∷ qs) = false
-samePages (p ∷ ps) [] = false
-samePages (p ∷ ps) (q ∷ qs) = sameNumbers p q && samePages ps qs
-
-abbrev shown41 : Result
-shown41 = answers (presents (item.Vector 0x41))
-
--- its tallies of vector 0x41 on vCPU 0
-abbrev tallies : Ledger
-tallies = ledgerOf (start 1 1) 0 (item.Vector 0x41) story
-
-unfoldable pub listed : List Bool
-listed =
-    sameResults (results (start 1 1) story)
-    (done 0 ∷ done 1 ∷ shown41 ∷ done 0 ∷ shown41 ∷ done 1 ∷ refused 0x80000005 ∷ done 0 ∷ shown41 ∷ refused 2 ∷ refused 1 ∷ done 0 ∷ done 65537 ∷ [])
-    ∷ samePages (pages (start 1 1) story) (set zeros 104 0x02 ∷ [])
-    ∷ eqb (length (struck story)) 11
-    ∷ eqb (tallies .presented) 3
-    ∷ eqb (tallies .admitted) 1
-    ∷ eqb (tallies .sent) 1
-    ∷ eqb (tallies .returned) 1
-    ∷ isItem (item.Vector 0x41) (tallies .latest)
+    -- 14.42: a presented vector is pending no more
+    ∷ gives 0 (resultOn shown41 (at 0 (call 2 0x822 0)))
+    ∷ gives 2 (resultOn shown41 (at 0 (call 2 0x812 0)))
+    -- 14.43: an entry forgets what the one before it presented
+    ∷ isNothing (resultOn shown41 (enters true false false))
+    ∷ isRefused 4 (resultOn (next shown41 (enters true false false)) (at 0 nonDelivery))
     ∷ []
 
 -- ---- all of them
 pub record Worked : Type 0 where
   pub starred : Starred
   pub further : every further ≡ true
-  pub listed : every listed ≡ true
-  -- two notices that differ in a byte are alike
-  pub different : Alike (at 0 (notice byte64)) (at 0 (notice zeros))

@@ -7,25 +7,25 @@ use Prim.Native.Nat.{ℕ, _+_, _-_, _≤_}
 use native.Mathlib.Omega.{arith}
 use lib.Dec.{ltb, leb, eqb}
 use borrow.Author.Tests.{eqb-true}
 use Rattle.model.specs.declared.Item.{Item}
 use Rattle.model.specs.declared.Item.the-variants as item
 use Rattle.model.specs.declared.Target.{Target}
 use Rattle.model.specs.declared.Local.{Local}
 use Rattle.model.specs.declared.Local.the-variants as local
 use Rattle.model.specs.declared.Vcpu.{Vcpu}
 use Rattle.model.specs.State.{isActive}
 use Rattle.model.specs.Codes.{Answer, nothing, presents, window, presentedIn}
 use Rattle.model.specs.Items.{InRange, sameItem, isItem, itemInFlight, flightOf, pending, mark}
 use Rattle.model.specs.Doorbell.{Part, inPart}
 use Rattle.model.specs.Registers.{class, ppr, endedAt, ended}
 use Rattle.model.specs.Ipi.{hits, reach}
 use Rattle.model.specs.Requests.{leaveIf, serve}
 use Rattle.model.specs.Events.{noticed, offerHighest, offer, present, giveBack, emptied}
-use Rattle.model.specs.Ledger.{tally}
+use Rattle.lists.specs.Ledger.{tally}
 use Rattle.vector_set.specs.Bits.{one}
 use Rattle.vector_set.specs.Sets.{highest}
 use Rattle.vector_set.proofs.Laws.{clash, highest-has}
 use Rattle.model.proofs.ItemLaws.{pending-mark, rest-mark, pending-unmark, pending-markAll, rest-markAll, pending-unmarkAll}
 
 -- ---- what is pending at a record after each change
 pub pending-present : (x : Item) → InRange x → (y : Item) (v : Vcpu) → pending x (present y v) ≡ (not (sameItem x y) && pending x v)

@@ -6,31 +6,31 @@ use mathlib.Core.Option.{Option, none, some}
 use Prim.Native.Nat.{ℕ, _+_, _-_, _%_}
 use lib.Dec.{leb, eqb}
 use borrow.Author.Tests.{eqb-true}
 use Rattle.model.specs.declared.Phase.the-variants.{Leaving}
 use Rattle.model.specs.declared.Item.the-variants as item
 use Rattle.model.specs.declared.Kind.{Kind}
 use Rattle.model.specs.declared.Kind.the-variants as kind
 use Rattle.model.specs.declared.Refusal.{Refusal}
 use Rattle.model.specs.declared.Refusal.the-variants.{RegistrationsFull, NotRegistered}
 use Rattle.model.specs.declared.Local.{Local}
 use Rattle.model.specs.declared.Local.the-variants as local
 use Rattle.model.specs.declared.Request.{Request}
 use Rattle.model.specs.declared.Request.the-variants as request
 use Rattle.model.specs.declared.Vcpu.{Vcpu}
 use Rattle.model.specs.declared.Module.{Module}
 use Rattle.model.specs.State.{vcpuAt, withVcpu, withRegistrations}
 use Rattle.model.specs.Codes.{accept, refuse, need}
 use Rattle.model.specs.Registers.{kindOf, endedAt, ended}
 use Rattle.model.specs.Ipi.{icrLegal}
 use Rattle.model.specs.Requests.{bad, registration, readBy, writeValue, writeBy, nameable, permission, requestOf, forget, leaveIf, serve, callVerdict}
 use Rattle.model.specs.Events.{verdict, callEffect, concluded}
-use Rattle.model.specs.Book.{BookRecord, Book, recordOf, bookOf, recordAt, withRecord, withCount, withPhase}
-use Rattle.model.specs.Book.{leavesAtZero, takesOne, addsOne, registers, permits, called}
+use Rattle.lists.specs.Book.{BookRecord, Book, recordOf, bookOf, recordAt, withRecord, withCount, withPhase}
+use Rattle.lists.specs.Book.{leavesAtZero, takesOne, addsOne, registers, permits, called}
 use Rattle.vector_set.specs.Bits.{bitAt}
 use Rattle.vector_set.specs.Sets.{insert, remove, isVector}
 use Rattle.vector_set.proofs.Laws.{clash}
 use Rattle.model.proofs.Stored.{count-same, taken, left-alone}
-use Rattle.model.proofs.BookLaws.{record-book, book-put, book-put-same, book-count, record-mark, book-sent}
+use Rattle.lists.proofs.BookLaws.{record-book, book-put, book-put-same, book-count, record-mark, book-sent}
 
 -- ---- the rule on calls, by what their numbers ask for
 abbrev serves : ℕ → Local → Book → Book

@@ -4,17 +4,16 @@ use mathlib.Core.Path.{_≡_}
 use mathlib.Core.Bool.{true}
 use mathlib.Core.List.{List, map}
 use Prim.Native.Nat.{ℕ, _+_, _≤_}
 use Rattle.model.specs.declared.Item.{Item}
-use Rattle.model.specs.declared.Item.the-variants as item
 use Rattle.model.specs.declared.Module.{Module}
 use Rattle.model.specs.State.{vcpuAt, start}
 use Rattle.model.specs.Codes.{Result, done, answers, refused}
-use Rattle.model.specs.Items.{InRange, memberOf, pending}
+use Rattle.model.specs.Items.{InRange, IsVector, memberOf, pending}
 use Rattle.model.specs.Doorbell.{Part, inPart, noPart, admitted, items}
 use Rattle.model.specs.Events.{notice, at, Bytes, Event, step, final}
-use Rattle.model.specs.Book.{Book, recordAt, note, bookOf, feedAll, partBy, parts}
-use Rattle.model.specs.Lists.{results, pages, struck, AllAlike}
-use Rattle.model.specs.Ledger.{ledgerOf}
+use Rattle.lists.specs.Book.{Book, recordAt, note, bookOf, feedAll, partBy, parts}
+use Rattle.lists.specs.Lists.{results, pages, struck, AllAlike}
+use Rattle.lists.specs.Ledger.{ledgerOf}
 use Rattle.vector_set.specs.Bits.{one}
 use Rattle.vector_set.specs.Sets.{has}
 
@@ -28,11 +27,6 @@ abbrev pub Exact : Result → Part → Part → Type 0
 Exact (done x) s t = (x ≡ items s) × (s ≡ t)
 Exact (answers a) s t = ⊥
 Exact (refused c) s t = s ≡ noPart
-
--- at least 31
-abbrev pub IsVector : Item → Type 0
-IsVector item.Nmi = Unit {0}
-IsVector (item.Vector v) = 31 ≤ v
 
 -- ---- of lists played on any module value m
 pub record Isolated (m : Module) : Type 0 where

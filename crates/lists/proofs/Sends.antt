@@ -4,25 +4,25 @@ use mathlib.Core.Bool.{Bool, true, false, cond, _&&_, _||_}
 use Prim.Native.Nat.{ℕ, _≤_}
 use native.Mathlib.Omega.{arith}
 use lib.Dec.{ltb, leb, eqb}
 use Rattle.model.specs.declared.Item.{Item}
 use Rattle.model.specs.declared.Item.the-variants as item
 use Rattle.model.specs.declared.Target.the-variants.{Caller}
 use Rattle.model.specs.declared.Kind.{Kind}
 use Rattle.model.specs.declared.Kind.the-variants as kind
 use Rattle.model.specs.declared.Refusal.the-variants.{UnknownCall, BadRegister}
 use Rattle.model.specs.declared.Local.{Local}
 use Rattle.model.specs.declared.Local.the-variants as local
 use Rattle.model.specs.declared.Request.{Request}
 use Rattle.model.specs.declared.Request.the-variants as request
 use Rattle.model.specs.State.{isActive}
 use Rattle.model.specs.Registers.{kindOf}
 use Rattle.model.specs.Ipi.{icrLegal, icrItem, icrTarget, hits}
 use Rattle.model.specs.Requests.{bad, registration, readBy, writeValue, writeBy, nameable, permission, requestOf}
-use Rattle.model.specs.Book.{Book, recordAt}
-use Rattle.model.specs.Ledger.{reaches, writeSends}
+use Rattle.lists.specs.Book.{Book, recordAt}
+use Rattle.lists.specs.Ledger.{reaches, writeSends}
 use Rattle.vector_set.specs.Bits.{one, bitAt}
 use Rattle.vector_set.specs.Sets.{isVector}
-use Rattle.model.proofs.Pending.{gives}
+use Rattle.lists.proofs.Pending.{gives}
 
 -- ---- what a call sends, by what its numbers ask for
 abbrev pub sendsBy : ℕ → Item → Book → ℕ → Request → Bool

@@ -7,19 +7,19 @@ use mathlib.Core.List.{List, [], _∷_}
 use mathlib.Core.Option.{Option}
 use Prim.Native.Nat.{ℕ, _+_}
 use lib.Dec.{ltb, eqb}
 use Rattle.model.specs.declared.Item.{Item}
 use Rattle.model.specs.declared.Item.the-variants as item
 use Rattle.model.specs.declared.Target.{Target}
 use Rattle.model.specs.declared.Target.the-variants.{Caller}
 use Rattle.model.specs.declared.Module.{Module}
 use Rattle.model.specs.State.{isActive, vcpuAt}
 use Rattle.model.specs.Codes.{Result, refused, accepted, presentedBy}
 use Rattle.model.specs.Items.{sameItem, isItem, itemInFlight}
 use Rattle.model.specs.Doorbell.{Part, inPart}
 use Rattle.model.specs.Ipi.{icrItem, icrTarget, hits}
 use Rattle.model.specs.Events.{Act, notice, call, entry, nonDelivery, handBack, Bytes, Event}
-use Rattle.model.specs.Book.{Book, bookOf, recordAt, feed, note, partBy}
-use Rattle.model.specs.Lists.{results}
+use Rattle.lists.specs.Book.{Book, bookOf, recordAt, feed, note, partBy}
+use Rattle.lists.specs.Lists.{results}
 
 -- the tallies of one item on one vCPU, and what the latest accepted entry there presented (13.27)
 pub record Ledger : Type 0 where

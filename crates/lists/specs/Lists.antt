@@ -6,11 +6,11 @@ use mathlib.Core.List.{List, [], _∷_, map}
 use mathlib.Core.Option.{Option, none, some}
 use Prim.Native.Nat.{ℕ}
 use lib.ListN.{length}
 use Rattle.model.specs.declared.Module.{Module}
 use Rattle.model.specs.Codes.{Result}
 use Rattle.model.specs.Events.{notice, at, Bytes, Event, Out, run}
 use Rattle.model.specs.Causes.{isHandBack}
-use Rattle.model.specs.Book.{noticePage}
+use Rattle.lists.specs.Book.{noticePage}
 
 -- the result of each event (12.5)
 unfoldable pub results : Module → List Event → List Result

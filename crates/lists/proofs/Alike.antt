@@ -5,16 +5,16 @@ use mathlib.Core.Bool.{cond}
 use mathlib.Core.List.{List, _∷_}
 use Prim.Native.Nat.{ℕ}
 use lib.ListN.{length}
 use Rattle.model.specs.declared.Module.{Module}
 use Rattle.model.specs.State.{vcpuAt}
 use Rattle.model.specs.Codes.{Verdict, accept, refuse}
 use Rattle.model.specs.Doorbell.{admitted}
 use Rattle.model.specs.Events.{notice, at, Bytes, Event, vcpuVerdict, verdict, effect, concluded, decided, step, next, run, final}
 use Rattle.model.specs.Causes.{isHandBack}
-use Rattle.model.specs.Book.{note, bookOf, partBy, parts}
-use Rattle.model.specs.Lists.{results, handBackPages, pages, Alike, same, notices, AllAlike, neither, both}
-use Rattle.model.proofs.Follow.{follow, part-accepted}
+use Rattle.lists.specs.Book.{note, bookOf, partBy, parts}
+use Rattle.lists.specs.Lists.{results, handBackPages, pages, Alike, same, notices, AllAlike, neither, both}
+use Rattle.lists.proofs.Follow.{follow, part-accepted}
 use Rattle.model.proofs.Stays.{vmpl-next}
 
 -- ---- one step: what two such events on one module leave equal, which is all but the page of a notice
 pub record Agree (m : Module) (d e : Event) : Type 0 where

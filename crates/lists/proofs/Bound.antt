@@ -7,35 +7,35 @@ use mathlib.Core.Option.{Option, none, some}
 use Prim.Native.Nat.{ℕ, _+_, _≤_}
 use native.Mathlib.Omega.{arith}
 use lib.Dec.{ltb, eqb}
 use Rattle.model.specs.declared.InFlight.the-variants as flight
 use Rattle.model.specs.declared.Item.{Item}
 use Rattle.model.specs.declared.Target.{Target}
 use Rattle.model.specs.declared.Refusal.{Refusal}
 use Rattle.model.specs.declared.Local.{Local}
 use Rattle.model.specs.declared.Request.{Request}
 use Rattle.model.specs.declared.Request.the-variants as request
 use Rattle.model.specs.declared.Vcpu.{Vcpu}
 use Rattle.model.specs.declared.Module.{Module}
 use Rattle.model.specs.State.{isActive, size, vcpuAt, withVcpu}
 use Rattle.model.specs.Codes.{codeOf, accept, refuse, Answer, nothing, presents, window, Result, refused, accepted, presentedIn}
 use Rattle.model.specs.Items.{InRange, sameItem, isItem, itemInFlight, pending, unmarkAll}
 use Rattle.model.specs.Doorbell.{Part, inPart, admitted}
 use Rattle.model.specs.Ipi.{icrItem, icrTarget, hits, reach, sent}
 use Rattle.model.specs.Requests.{requestOf, forget, serve}
 use Rattle.model.specs.Events.{Act, notice, call, entry, nonDelivery, handBack, at, Bytes, Event, noticed, offer, entered}
 use Rattle.model.specs.Events.{undelivered, emptied, verdict, callEffect, effect, concluded, step, next, run}
-use Rattle.model.specs.Book.{Book, bookOf, partOn, partBy}
-use Rattle.model.specs.Lists.{results}
-use Rattle.model.specs.Ledger.{Ledger, Quiet, addAdmitted, addSent, addPresented, addReturned, withLatest, writeSends, postAct, ledger, opened, ledgerOf}
+use Rattle.lists.specs.Book.{Book, bookOf, partOn, partBy}
+use Rattle.lists.specs.Lists.{results}
+use Rattle.lists.specs.Ledger.{Ledger, Quiet, addAdmitted, addSent, addPresented, addReturned, withLatest, writeSends, postAct, ledger, opened, ledgerOf}
 use Rattle.vector_set.specs.Bits.{one}
 use Rattle.model.proofs.Stored.{on-put, vcpuAt-count, size-put, count-same, vcpuAt-sent, by-verdict, Known, known-of}
-use Rattle.model.proofs.BookLaws.{record-book}
-use Rattle.model.proofs.Follow.{part-accepted, part-refused, follow}
+use Rattle.lists.proofs.BookLaws.{record-book}
+use Rattle.lists.proofs.Follow.{part-accepted, part-refused, follow}
 use Rattle.model.proofs.Stays.{vmpl-next}
 use Rattle.model.proofs.Allowed.{none-in}
-use Rattle.model.proofs.Pending.{pending-present, pending-giveBack, pending-emptied, gives, Like, like-noticed, like-serve}
-use Rattle.model.proofs.Pending.{like-reach, Offered, offer-pending, Follows, flying-flight, tally-is, or-le, take-is}
-use Rattle.model.proofs.Sends.{request-le, sendsBy}
+use Rattle.lists.proofs.Pending.{pending-present, pending-giveBack, pending-emptied, gives, Like, like-noticed, like-serve}
+use Rattle.lists.proofs.Pending.{like-reach, Offered, offer-pending, Follows, flying-flight, tally-is, or-le, take-is}
+use Rattle.lists.proofs.Sends.{request-le, sendsBy}
 
 -- ---- nothing is posted for a refused event or a read
 pub quiet-refused : (j : ℕ) (x : Item) (s : Part) (w : Book) (i : ℕ) (a : Act Bytes) (c : ℕ) (g : Ledger) → inPart x s ≡ false

@@ -6,20 +6,20 @@ use mathlib.Core.Option.{Option, none, some}
 use Prim.Native.Nat.{ℕ, zero, suc}
 use lib.ListN.{set, List·getD-map}
 use lib.Seq.{map-set-same}
 use Rattle.model.specs.declared.InFlight.{InFlight}
 use Rattle.model.specs.declared.Item.{Item}
 use Rattle.model.specs.declared.Item.the-variants as item
 use Rattle.model.specs.declared.Target.{Target}
 use Rattle.model.specs.declared.Vcpu.{Vcpu}
 use Rattle.model.specs.declared.Module.{Module}
 use Rattle.model.specs.State.{absent, size, vcpuAt, withVcpu, withRegistrations, withFlight}
 use Rattle.model.specs.Codes.{Answer, nothing, presents, window}
 use Rattle.model.specs.Items.{mark, unmark, markAll}
 use Rattle.model.specs.Doorbell.{Part}
 use Rattle.model.specs.Ipi.{reach, mapFrom, sent}
 use Rattle.model.specs.Events.{noticed, present, entered, giveBack, undelivered}
-use Rattle.model.specs.Book.{recordOf, bookOf, recordAt, withRecord, withCount}
+use Rattle.lists.specs.Book.{recordOf, bookOf, recordAt, withRecord, withCount}
 use Rattle.model.proofs.Stored.{by-reach}
 
 -- ---- the book of a module, at a record and after a change
 pub record-book : (m : Module) (i : ℕ) → recordAt (bookOf m) i ≡ recordOf (vcpuAt m i)

@@ -4,24 +4,24 @@ use mathlib.Core.Path.{_≡_, refl, ap, _∙_}
 use mathlib.Core.List.{List, [], _∷_, map}
 use Prim.Native.Nat.{ℕ}
 use lib.Dec.{ltb}
 use Rattle.model.specs.declared.Phase.the-variants.{Left}
 use Rattle.model.specs.declared.Refusal.{Refusal}
 use Rattle.model.specs.declared.Refusal.the-variants.{UnknownVcpu, ShortPage, NotLeaving, NotActive}
 use Rattle.model.specs.declared.Vcpu.{Vcpu}
 use Rattle.model.specs.declared.Module.{Module}
 use Rattle.model.specs.State.{isActive, isLeaving, size, vcpuAt, withVcpu, withRegistrations}
 use Rattle.model.specs.Codes.{accept, refuse}
 use Rattle.model.specs.Items.{itemInFlight, unmarkAll}
 use Rattle.model.specs.Doorbell.{longEnough, noPart, admitted}
 use Rattle.model.specs.Requests.{requestOf, forget}
 use Rattle.model.specs.Events.{Act, notice, call, entry, nonDelivery, handBack, at, Bytes, Event, offer}
 use Rattle.model.specs.Events.{emptied, vcpuVerdict, verdict, effect, concluded, next, final}
-use Rattle.model.specs.Book.{note, Book, recordOf, bookOf, leaves, feedAct, feed, feedAll, partOn, partBy}
-use Rattle.model.specs.Lists.{struck}
+use Rattle.lists.specs.Book.{note, Book, recordOf, bookOf, leaves, feedAct, feed, feedAll, partOn, partBy}
+use Rattle.lists.specs.Lists.{struck}
 use Rattle.vector_set.specs.Sets.{empty}
 use Rattle.model.proofs.Stored.{count-same, taken, left-alone, all-three, not-three, by-verdict}
-use Rattle.model.proofs.BookLaws.{record-book, book-put, record-noticed, record-entered, record-undelivered}
-use Rattle.model.proofs.FollowCalls.{called-requests, nothing-stored, follow-request, refused-request}
+use Rattle.lists.proofs.BookLaws.{record-book, book-put, record-noticed, record-entered, record-undelivered}
+use Rattle.lists.proofs.FollowCalls.{called-requests, nothing-stored, follow-request, refused-request}
 
 -- ---- an event, and a list
 record-emptied : (v : Vcpu) → recordOf (emptied v) ≡ record { phase = Left; allowed = empty }

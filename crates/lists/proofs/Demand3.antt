@@ -4,25 +4,25 @@ use mathlib.Core.Path.{subst}
 use mathlib.Core.List.{List}
 use Prim.Native.Nat.{ℕ, _≤_}
 use native.Mathlib.Omega.{arith}
 use Rattle.model.specs.declared.Phase.{Phase}
 use Rattle.model.specs.declared.Item.{Item}
 use Rattle.model.specs.declared.Item.the-variants as item
 use Rattle.model.specs.declared.Module.{Module}
 use Rattle.model.specs.State.{bare, vcpuAt, start}
 use Rattle.model.specs.Items.{InRange, pending}
 use Rattle.model.specs.Doorbell.{admitted}
 use Rattle.model.specs.Events.{notice, at, Bytes, Event, effect, concluded, step, final}
-use Rattle.model.specs.Book.{bookOf, partBy}
-use Rattle.model.specs.Demand3.{bookAfter, Exact, FromAny, Demand3}
+use Rattle.lists.specs.Book.{bookOf, partBy}
+use Rattle.lists.specs.Demand3.{bookAfter, Exact, FromAny, Demand3}
 use Rattle.vector_set.specs.Bits.{one}
 use Rattle.vector_set.proofs.Laws.{has-empty}
 use Rattle.model.proofs.Stored.{by-verdict}
-use Rattle.model.proofs.Follow.{follow-all, struck-book, part-accepted, part-refused}
+use Rattle.lists.proofs.Follow.{follow-all, struck-book, part-accepted, part-refused}
 use Rattle.model.proofs.Stays.{vmpl-final}
-use Rattle.model.proofs.Alike.{alike}
-use Rattle.model.proofs.Allowed.{part-fits}
-use Rattle.model.proofs.Bound.{bounded}
+use Rattle.lists.proofs.Alike.{alike}
+use Rattle.lists.proofs.Parts.{part-fits}
+use Rattle.lists.proofs.Bound.{bounded}
 use Rattle.model.proofs.Reached.{everywhere-start}
 
 -- ---- an accepted notice admits by the book what it admits by the record, and gives the number of its items; a refused one admits nothing
 exact-at : (m : Module) (i : ℕ) (p : Bytes)

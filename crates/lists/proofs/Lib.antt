@@ -1,0 +1,11 @@
+pub mod BookLaws
+pub mod FollowCalls
+pub mod Follow
+pub mod Counts
+pub mod Alike
+pub mod Parts
+pub mod Pending
+pub mod Sends
+pub mod Bound
+pub mod Demand3
+pub mod ComputedList

@@ -1,0 +1,5 @@
+pub mod Book
+pub mod Lists
+pub mod Ledger
+pub mod Demand3
+pub mod WorkedList

@@ -1,16 +1,21 @@
 // Standard input, line by line.
 ghost use Prim.Native.Nat.{_≤_};
+use crate::CHUNK_BYTES;
+use crate::Chunk;
+use crate::LINE_ROOM;
+use crate::LineRoom;
+use crate::PageRoom;
 use crate::Session;
 use libc::STDERR_FILENO;
 use libc::STDIN_FILENO;
 use trace::Event;
 
 // Adds the bytes of `text` to the line, as long as there is room: one byte more than a readable line has.
-fn keep(line: &mut [u8; 65537], kept: usize, text: &[u8]) -> usize {
+fn keep(line: &mut LineRoom, kept: usize, text: &[u8]) -> usize {
     let mut kept = kept;
     let mut i = 0;
     while i < text.len() {
-        if kept < 65537 {
+        if kept < LINE_ROOM {
             line[kept] = text[i];
             kept += 1;
         }
@@ -20,7 +25,7 @@ fn keep(line: &mut [u8; 65537], kept: usize, text: &[u8]) -> usize {
 }
 
 // Keeps the bytes from `from` up to the next newline, which ends the line, or up to `to` where there is none.
-fn keep_part(chunk: &[u8; 65536], line: &mut [u8; 65537], kept: usize, session: Session) -> Session
+fn keep_part(chunk: &Chunk, line: &mut LineRoom, kept: usize, session: Session) -> Session
     requires { ⌜ session .from ≤ session .to ⌝ }
     requires { ⌜ session .to ≤ 65536 ⌝ }
 {
@@ -50,7 +55,7 @@ fn close(session: Session) -> Session {
     last
 }
 
-fn fill(chunk: &mut [u8; 65536], session: Session) -> Session {
+fn fill(chunk: &mut Chunk, session: Session) -> Session {
     let got = libc::read(STDIN_FILENO, chunk);
     if got <= 0 {
         if got < 0 {
@@ -65,20 +70,20 @@ fn fill(chunk: &mut [u8; 65536], session: Session) -> Session {
 }
 
 // Goes on in the input: to the end of the present line, or of what has been read of it. One step of a loop that ends with the input.
-pub fn advance(chunk: &mut [u8; 65536], line: &mut [u8; 65537], session: Session) -> Session {
+pub fn advance(chunk: &mut Chunk, line: &mut LineRoom, session: Session) -> Session {
     let mut now = session;
     if session.ended {
         now.kept = 0;
         now.ended = false;
     }
-    if now.from < now.to && now.to <= 65536 {
+    if now.from < now.to && now.to <= CHUNK_BYTES {
         return keep_part(chunk, line, now.kept, now);
     }
     fill(chunk, now)
 }
 
 // The event of the line that has ended, with the bytes of its page.
-pub fn next_event(line: &[u8; 65537], page: &mut [u8; 4096], session: Session) -> Event {
+pub fn next_event(line: &LineRoom, page: &mut PageRoom, session: Session) -> Event {
     let kept = session.kept;
     let text: &[u8] = line;
     if session.ended {

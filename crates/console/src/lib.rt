@@ -7,6 +7,21 @@ use model::Outcome;
 use model::Presentation;
 use output::Sink;
 
+// The bytes that are read or written at once.
+pub const CHUNK_BYTES: usize = 65536;
+
+pub type Chunk = [u8; CHUNK_BYTES];
+
+// Room for a line: one byte more than a readable line has, so that a longer one is told.
+pub const LINE_ROOM: usize = trace::LONGEST + 1;
+
+pub type LineRoom = [u8; LINE_ROOM];
+
+// Room for the longest page of a trace.
+pub const PAGE_ROOM: usize = 4096;
+
+pub type PageRoom = [u8; PAGE_ROOM];
+
 // Where a program stands: the bytes of the chunk that are not read yet, how many bytes of the present line are kept and whether
 // it has ended, how many lines have ended, how full the output is, and whether the program goes on.
 pub struct Session {

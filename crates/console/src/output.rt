@@ -1,4 +1,6 @@
 // Standard output: bytes are collected in a buffer of 65,536 and written when it is full.
+use crate::CHUNK_BYTES;
+use crate::Chunk;
 use libc::STDOUT_FILENO;
 
 // How full the buffer is, and whether a write has failed. Nothing is written after that.
@@ -8,7 +10,7 @@ pub struct Sink {
 }
 
 // Writes what the buffer holds.
-pub fn flush(out: &[u8; 65536], sink: Sink) -> Sink {
+pub fn flush(out: &Chunk, sink: Sink) -> Sink {
     let text: &[u8] = out;
     let at = sink.at;
     let mut lost = sink.lost;
@@ -20,20 +22,20 @@ pub fn flush(out: &[u8; 65536], sink: Sink) -> Sink {
     Sink { at: 0, lost }
 }
 
-pub fn put_byte(out: &mut [u8; 65536], sink: Sink, b: u8) -> Sink {
+pub fn put_byte(out: &mut Chunk, sink: Sink, b: u8) -> Sink {
     let mut next = sink;
-    if 65536 <= sink.at {
+    if CHUNK_BYTES <= sink.at {
         next = flush(out, sink);
     }
     let at = next.at;
-    if at < 65536 {
+    if at < CHUNK_BYTES {
         out[at] = b;
         next.at = at + 1;
     }
     next
 }
 
-pub fn put(out: &mut [u8; 65536], sink: Sink, text: &[u8]) -> Sink {
+pub fn put(out: &mut Chunk, sink: Sink, text: &[u8]) -> Sink {
     let mut sink = sink;
     let mut i = 0;
     while i < text.len() {
@@ -44,7 +46,7 @@ pub fn put(out: &mut [u8; 65536], sink: Sink, text: &[u8]) -> Sink {
 }
 
 // A name, then a number.
-pub fn put_hex(out: &mut [u8; 65536], sink: Sink, name: &[u8], n: u64) -> Sink {
+pub fn put_hex(out: &mut Chunk, sink: Sink, name: &[u8], n: u64) -> Sink {
     let sink = put(out, sink, name);
     let sink = put(out, sink, b"0x");
     let mut text = [0u8; 16];
@@ -52,7 +54,7 @@ pub fn put_hex(out: &mut [u8; 65536], sink: Sink, name: &[u8], n: u64) -> Sink {
     put(out, sink, &text[..k])
 }
 
-pub fn put_decimal(out: &mut [u8; 65536], sink: Sink, name: &[u8], n: u64) -> Sink {
+pub fn put_decimal(out: &mut Chunk, sink: Sink, name: &[u8], n: u64) -> Sink {
     let sink = put(out, sink, name);
     let mut text = [0u8; 20];
     let k = io::decimal(n, &mut text);

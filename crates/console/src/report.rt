@@ -1,5 +1,7 @@
 // The line of an event's answer, and the lines of a module's state.
 use crate::Answer;
+use crate::Chunk;
+use crate::PageRoom;
 use crate::Session;
 use crate::output::Sink;
 use crate::output::flush;
@@ -18,14 +20,14 @@ use trace::Event;
 
 // ---- answers
 
-fn put_outcome(out: &mut [u8; 65536], sink: Sink, o: Outcome) -> Sink {
+fn put_outcome(out: &mut Chunk, sink: Sink, o: Outcome) -> Sink {
     match o {
         Outcome::Done(v) => put_hex(out, sink, b" ok ", v),
         Outcome::Refused(r) => put_hex(out, sink, b" refused ", gate::code(r) as u64),
     }
 }
 
-fn put_presentation(out: &mut [u8; 65536], sink: Sink, p: Presentation) -> Sink {
+fn put_presentation(out: &mut Chunk, sink: Sink, p: Presentation) -> Sink {
     match p {
         Presentation::Nothing => put(out, sink, b" nothing"),
         Presentation::Nmi => put(out, sink, b" nmi"),
@@ -36,7 +38,7 @@ fn put_presentation(out: &mut [u8; 65536], sink: Sink, p: Presentation) -> Sink 
 }
 
 // The name of an event, then its answer.
-fn put_answer(out: &mut [u8; 65536], sink: Sink, name: &[u8], a: Answer) -> Sink {
+fn put_answer(out: &mut Chunk, sink: Sink, name: &[u8], a: Answer) -> Sink {
     let sink = put(out, sink, name);
     match a {
         Answer::Nothing => sink,
@@ -47,7 +49,7 @@ fn put_answer(out: &mut [u8; 65536], sink: Sink, name: &[u8], a: Answer) -> Sink
 
 // ---- pages
 
-fn put_cell(out: &mut [u8; 65536], sink: Sink, offset: usize, b: u8) -> Sink {
+fn put_cell(out: &mut Chunk, sink: Sink, offset: usize, b: u8) -> Sink {
     if b == 0 {
         return sink;
     }
@@ -56,7 +58,7 @@ fn put_cell(out: &mut [u8; 65536], sink: Sink, offset: usize, b: u8) -> Sink {
 }
 
 // The bytes of the page that are not zero.
-fn put_page(out: &mut [u8; 65536], sink: Sink, page: &[u8]) -> Sink {
+fn put_page(out: &mut Chunk, sink: Sink, page: &[u8]) -> Sink {
     let mut sink = sink;
     let mut i = 0;
     while i < page.len() {
@@ -68,7 +70,7 @@ fn put_page(out: &mut [u8; 65536], sink: Sink, page: &[u8]) -> Sink {
 
 // ---- the module
 
-fn put_member(out: &mut [u8; 65536], sink: Sink, v: u8, later: bool) -> Sink {
+fn put_member(out: &mut Chunk, sink: Sink, v: u8, later: bool) -> Sink {
     if later {
         put_hex(out, sink, b",", v as u64)
     } else {
@@ -77,7 +79,7 @@ fn put_member(out: &mut [u8; 65536], sink: Sink, v: u8, later: bool) -> Sink {
 }
 
 // The members of s, between braces.
-fn put_members(out: &mut [u8; 65536], sink: Sink, s: [u32; 8]) -> Sink {
+fn put_members(out: &mut Chunk, sink: Sink, s: [u32; 8]) -> Sink {
     let mut sink = sink;
     let mut later = false;
     let mut v: u32 = 0;
@@ -91,14 +93,14 @@ fn put_members(out: &mut [u8; 65536], sink: Sink, s: [u32; 8]) -> Sink {
     sink
 }
 
-fn put_set(out: &mut [u8; 65536], sink: Sink, name: &[u8], s: [u32; 8]) -> Sink {
+fn put_set(out: &mut Chunk, sink: Sink, name: &[u8], s: [u32; 8]) -> Sink {
     let sink = put(out, sink, name);
     let sink = put_byte(out, sink, b'{');
     let sink = put_members(out, sink, s);
     put_byte(out, sink, b'}')
 }
 
-fn put_phase(out: &mut [u8; 65536], sink: Sink, p: Phase) -> Sink {
+fn put_phase(out: &mut Chunk, sink: Sink, p: Phase) -> Sink {
     match p {
         Phase::Active => put(out, sink, b" phase=active"),
         Phase::Leaving => put(out, sink, b" phase=leaving"),
@@ -106,7 +108,7 @@ fn put_phase(out: &mut [u8; 65536], sink: Sink, p: Phase) -> Sink {
     }
 }
 
-fn put_flight(out: &mut [u8; 65536], sink: Sink, f: InFlight) -> Sink {
+fn put_flight(out: &mut Chunk, sink: Sink, f: InFlight) -> Sink {
     match f {
         InFlight::Nothing => put(out, sink, b" flight=nothing"),
         InFlight::Nmi => put(out, sink, b" flight=nmi"),
@@ -114,7 +116,7 @@ fn put_flight(out: &mut [u8; 65536], sink: Sink, f: InFlight) -> Sink {
     }
 }
 
-fn put_sets(out: &mut [u8; 65536], sink: Sink, v: Vcpu) -> Sink {
+fn put_sets(out: &mut Chunk, sink: Sink, v: Vcpu) -> Sink {
     let allowed = v.allowed;
     let sink = put_set(out, sink, b" allowed=", allowed);
     let irr = v.irr;
@@ -127,7 +129,7 @@ fn put_sets(out: &mut [u8; 65536], sink: Sink, v: Vcpu) -> Sink {
     put_set(out, sink, b" serving_level=", isr_level)
 }
 
-fn put_vcpu(out: &mut [u8; 65536], sink: Sink, i: u32, v: Vcpu) -> Sink {
+fn put_vcpu(out: &mut Chunk, sink: Sink, i: u32, v: Vcpu) -> Sink {
     let sink = put_hex(out, sink, b"vcpu ", i as u64);
     let phase = v.phase;
     let sink = put_phase(out, sink, phase);
@@ -140,7 +142,7 @@ fn put_vcpu(out: &mut [u8; 65536], sink: Sink, i: u32, v: Vcpu) -> Sink {
     put_byte(out, sink, b'\n')
 }
 
-fn put_vcpus(out: &mut [u8; 65536], sink: Sink, m: Module) -> Sink {
+fn put_vcpus(out: &mut Chunk, sink: Sink, m: Module) -> Sink {
     let mut sink = sink;
     let mut i: u32 = 0;
     while i < 32 {
@@ -154,7 +156,7 @@ fn put_vcpus(out: &mut [u8; 65536], sink: Sink, m: Module) -> Sink {
     sink
 }
 
-fn put_module(out: &mut [u8; 65536], sink: Sink, m: Module) -> Sink {
+fn put_module(out: &mut Chunk, sink: Sink, m: Module) -> Sink {
     let sink = put_hex(out, sink, b"module n=", m.n as u64);
     let sink = put_hex(out, sink, b" vmpl=", m.vmpl as u64);
     let sink = put_hex(out, sink, b" count=", m.registrations as u64);
@@ -165,7 +167,7 @@ fn put_module(out: &mut [u8; 65536], sink: Sink, m: Module) -> Sink {
 // ---- events
 
 // The line of start: its result is the module alone.
-fn put_start(out: &mut [u8; 65536], sink: Sink, a: Answer) -> Sink {
+fn put_start(out: &mut Chunk, sink: Sink, a: Answer) -> Sink {
     if let Answer::Outcome(o) = a {
         if let Outcome::Done(_) = o {
             return put(out, sink, b"start ok\n");
@@ -175,18 +177,18 @@ fn put_start(out: &mut [u8; 65536], sink: Sink, a: Answer) -> Sink {
 }
 
 // The line of an event that has no page.
-fn put_plain(out: &mut [u8; 65536], sink: Sink, name: &[u8], a: Answer) -> Sink {
+fn put_plain(out: &mut Chunk, sink: Sink, name: &[u8], a: Answer) -> Sink {
     let sink = put_answer(out, sink, name, a);
     put_byte(out, sink, b'\n')
 }
 
 // The line of an event that has one, of `length` bytes.
 fn put_paged(
-    out: &mut [u8; 65536],
+    out: &mut Chunk,
     sink: Sink,
     name: &[u8],
     a: Answer,
-    page: &[u8; 4096],
+    page: &PageRoom,
     length: usize,
 ) -> Sink {
     let mut sink = put_answer(out, sink, name, a);
@@ -198,15 +200,15 @@ fn put_paged(
     put_byte(out, sink, b'\n')
 }
 
-fn put_error(out: &mut [u8; 65536], sink: Sink, number: u64) -> Sink {
+fn put_error(out: &mut Chunk, sink: Sink, number: u64) -> Sink {
     let sink = put_decimal(out, sink, b"error line ", number);
     put_byte(out, sink, b'\n')
 }
 
 fn put_event(
-    out: &mut [u8; 65536],
+    out: &mut Chunk,
     sink: Sink,
-    page: &[u8; 4096],
+    page: &PageRoom,
     number: u64,
     event: Event,
     answer: Answer,
@@ -242,8 +244,8 @@ fn put_event(
 
 // Prints what the event came to, and writes all that is left once the input has ended. Where the output cannot be written it says so, and the program stops.
 pub fn report(
-    out: &mut [u8; 65536],
-    page: &[u8; 4096],
+    out: &mut Chunk,
+    page: &PageRoom,
     session: Session,
     event: Event,
     answer: Answer,

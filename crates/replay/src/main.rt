@@ -1,5 +1,9 @@
 // Plays the trace on standard input on one module, in place, and prints a line for each event.
 use console::Answer;
+use console::Chunk;
+use console::LINE_ROOM;
+use console::LineRoom;
+use console::PageRoom;
 use console::front;
 use console::input::advance;
 use console::input::next_event;
@@ -13,7 +17,7 @@ use model::Module;
 use trace::Event;
 
 // Plays one event on the module that is lent.
-fn play(module: &mut Module, page: &mut [u8; 4096], event: Event) -> Answer {
+fn play(module: &mut Module, page: &mut PageRoom, event: Event) -> Answer {
     match event {
         Event::Nothing => Answer::Nothing,
         Event::Unreadable => Answer::Nothing,
@@ -54,10 +58,10 @@ fn play(module: &mut Module, page: &mut [u8; 4096], event: Event) -> Answer {
 // turns are counted down from a number that no input uses up.
 fn run(
     first: Module,
-    chunk: &mut [u8; 65536],
-    line: &mut [u8; 65537],
-    page: &mut [u8; 4096],
-    out: &mut [u8; 65536],
+    chunk: &mut Chunk,
+    line: &mut LineRoom,
+    page: &mut PageRoom,
+    out: &mut Chunk,
 ) {
     let mut module = first;
     let mut session = console::begin();
@@ -76,7 +80,7 @@ fn run(
 
 fn main() {
     let mut chunk = io::large_buffer();
-    let mut line = [0u8; 65537];
+    let mut line = [0u8; LINE_ROOM];
     let mut page = io::buffer();
     let mut out = io::large_buffer();
     let first = gate_start::start(0, 0);

@@ -1,5 +1,9 @@
 // Plays the trace on standard input on one module by value: what `replay` does in place, and it prints the same.
 use console::Answer;
+use console::Chunk;
+use console::LINE_ROOM;
+use console::LineRoom;
+use console::PageRoom;
 use console::front;
 use console::input::advance;
 use console::input::next_event;
@@ -78,10 +82,10 @@ fn play(module: Module, page: &mut [u8], event: Event) -> Played {
 // uses up.
 fn run(
     first: Module,
-    chunk: &mut [u8; 65536],
-    line: &mut [u8; 65537],
-    page: &mut [u8; 4096],
-    out: &mut [u8; 65536],
+    chunk: &mut Chunk,
+    line: &mut LineRoom,
+    page: &mut PageRoom,
+    out: &mut Chunk,
 ) {
     let mut module = first;
     let mut session = console::begin();
@@ -102,7 +106,7 @@ fn run(
 
 fn main() {
     let mut chunk = io::large_buffer();
-    let mut line = [0u8; 65537];
+    let mut line = [0u8; LINE_ROOM];
     let mut page = io::buffer();
     let mut out = io::large_buffer();
     let first = gate_start::start(0, 0);

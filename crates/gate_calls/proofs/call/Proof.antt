@@ -45,7 +45,8 @@ returns-2 c =
     let r = c .before .before .before .before .call-vcpu in
     let o = c .before .reply .given in
     served-call (a .t1) (a .vcpu) (here e) _ (record-is (a .t1) (a .vcpu) _ (below-32 (a .t1) (here e)) l)
-    (a .number) (a .ecx) (a .rdx) (r .result .vcpu) (r .result .registrations) (resultOf (o .0 .0)) (given-as (r .result) (Gives (o .0 .0)) _ (o .1) (r .ensures))
+    (a .number) (a .ecx) (a .rdx) (r .result .vcpu) (r .result .registrations) (resultOf (o .0 .0))
+    (given-as (r .result) (Gives (o .0 .0)) _ (o .1) (r .ensures))
 
 returns-3 : tie.Need-returns-3
 unfolding withVcpu withRegistrations

@@ -1,0 +1,116 @@
+-- The arms of `replay::play` for the events that have a page, of which the front is lent. Assumes nothing.
+use Rattle.gate_mut.proofs.Walk.{refl, List, [], _∷_, ℕ, Bool, URA, Val, vbool, SProp}
+use Rattle.gate_mut.proofs.Walk.{Heap, Tables, Atoms, Given, _$_, ! }
+use Rattle.gate_mut.proofs.Walk.{look, init, stop, hop, fld, from, load, lit, addr, of-opd, and-then, no-more, land, agg}
+use Rattle.gate_mut.proofs.Walk.{whole, look-in, bool-makes, bool, plain, yes, Triple}
+use lib.Dec.{lit<}
+use base.Logic.{id⊢, emp}
+use prog.Memory.{Memory}
+use prog.Routine.{Routine}
+use prog.Wp.{Env}
+use contract.Monad.{Fun}
+use types.Kit.{atRet, Post}
+use types.Match.{vrt, in-variant, look-tag}
+use types.Run.{assigns-last, switches-on, exec}
+use denote.Enum.Laws as EL
+use Rattle.model.specs.declared.Module.{Module}
+use Rattle.model.specs.declared.Outcome.{Outcome}
+use Rattle.trace.specs.declared.Event.{Event}
+use Rattle.trace.specs.declared.Event.the-variants as event
+use Rattle.trace.proofs.Event as X
+use Rattle.trace.proofs.Event.Laws as X′
+use Rattle.console.specs.declared.Answer.the-variants as answer
+use Rattle.console.proofs.Answer as N
+use Rattle.console.proofs.Answer.Laws as N′
+use Rattle.gate_mut_pages.proofs.notice_in as notice
+use Rattle.gate_mut_pages.proofs.notice_in.Symbol.{name as #notice}
+use Rattle.gate_mut_pages.proofs.hand_back_in as hand-back
+use Rattle.gate_mut_pages.proofs.hand_back_in.Symbol.{name as #hand-back}
+use Rattle.console.proofs.front.Symbol.{name as #front}
+use Rattle.gate_mut.proofs.Answers.{typedO}
+use Rattle.gate_mut.proofs.Frame.{Blocks, var, sets}
+use Rattle.replay.proofs.Arms.{nth-arm}
+use Rattle.replay.proofs.Call.{big-lit}
+use Rattle.replay.proofs.Lend.{Lent}
+use Rattle.replay.proofs.OnModule.{Fronts, fronts, pages}
+use Rattle.replay.proofs.Values.{typedN}
+use Rattle.replay.proofs.play.Code as code
+use Rattle.replay.proofs.play.Code.Mir.{s-1, t-2}
+use Rattle.replay.proofs.play.Proof.Shape as shape
+
+module _ {M : Type 1} (𝓤 : URA M) (H : Heap 𝓤) (A : Atoms 𝓤) (W : Given 𝓤 H A) (memory : Memory → SProp 𝓤) (run : Routine → Fun 𝓤) (m p : Lent) (h : Module)
+    (ys : List ℕ) (𝓣 : Tables 𝓤 H) (bs : Blocks (code.function .locals)) where
+  abbrev Post′ : Event → Val → SProp 𝓤
+  Post′ = shape.Post′ 𝓤 H A W memory run m p h ys
+
+  abbrev En : Env 𝓤 H
+  En = shape.En 𝓤 H A W memory run m p h ys 𝓣 bs
+
+  abbrev Then : Event → Post 𝓤 H
+  Then = shape.Then 𝓤 H A W memory run m p h ys 𝓣 bs
+
+  abbrev Matched : Event → Type 1
+  Matched = shape.Matched 𝓤 H A W memory run m p h ys 𝓣 bs
+
+  pub notice-arm : Triple 𝓤 (𝓣 .C #front) (Fronts 𝓤 H A W memory run m p h ys)
+      → Triple 𝓤 (𝓣 .C #notice) (shape.Notices 𝓤 H A W memory run m p h ys) → (i n : ℕ) → Matched (event.Notice i n)
+  notice-arm front-known known i n is-e =
+      let e : Event = event.Notice i n in
+      let i-fits = EL.owed X.the-type X′.the-laws (event.Notice i n) _ is-e .0 .1 in
+      let n-fits = EL.owed X.the-type X′.the-laws (event.Notice i n) _ is-e .1 .0 .1 in
+      switches-on ! (load ! (from ! (vrt ! refl (fld ! refl (stop !)))) (look-tag ! 7 (whole !))) $ exec ! (𝓣 .C) (𝓣 .Λ) En (nth-arm 3 s-1) (Then e) $
+      sets ! (of-opd ! (load ! (from ! (vrt ! refl (fld ! {d = 4} refl (stop !)))) (look-in ! 7 (in-variant ! 3 0 {d = 4} refl refl (whole !))))) 11 refl
+      (tt, record { fits = i-fits }) $
+      sets ! (of-opd ! (load ! (from ! (vrt ! refl (fld ! {d = 8} refl (stop !)))) (look-in ! 7 (in-variant ! 3 1 {d = 8} refl refl (whole !))))) 12 refl
+      (tt, record { fits = n-fits }) $
+      sets ! (addr ! (from ! (hop ! (look ! 5 refl) (stop !)))) 28 refl (tt, tt) $
+      sets ! (addr ! (from ! (hop ! (look ! 6 refl) (stop !)))) 30 refl (tt, tt) $
+      sets ! (agg ! (and-then ! (var ! 30 refl) (and-then ! (big-lit ! (record { fits = lit< tt })) (no-more !)))) 31 refl
+      (tt, (tt, (record { fits = lit< tt }, tt))) $
+      fronts 𝓤 H A W memory run m p h ys 𝓣 ! front-known n n-fits (λ β γ₂ lent. and-then ! (var ! 31 refl) (and-then ! (var ! 12 refl) (no-more !)))
+      (λ β γ₂ l r room.
+      land ! (from ! (stop !)) (init ! 30 refl (tt, (tt, (record { fits = room .0 }, tt)))) $
+      pages 𝓤 H A W memory run m p h ys 𝓣 ! [] tt (notice.clauses 𝓤 H A memory run) known i i-fits β γ₂ l r (λ α. tt) (λ α. tt) (λ α. tt) (λ α. tt)
+      (λ α γ₁. tt) (λ α γ₁. id⊢ 𝓤 (emp 𝓤))
+      (λ α γ₁ lent. and-then ! (var ! 27 refl) (and-then ! (var ! 10 refl) (and-then ! (var ! 28 refl) (no-more !)))) (λ a a-is h′ zs.
+      let is = EL.owes N.the-type N′.the-laws (answer.Outcome a) (a-is, tt) in
+      land ! (from ! (stop !)) (init ! 27 refl (typedO 𝓤 H A W a a-is)) $
+      assigns-last ! (agg ! (and-then ! (lit ! tt) (and-then ! (var ! 27 refl) (no-more !)))) (from ! (stop !))
+      (init ! 26 refl (typedN 𝓤 H A W (answer.Outcome a) is)) $ exec ! (𝓣 .C) (𝓣 .Λ) En t-2 (atRet En (Post′ e)) $
+      sets ! (of-opd ! (var ! 26 refl)) 4 refl (typedN 𝓤 H A W (answer.Outcome a) is) $
+      shape.leaves 𝓤 H A W memory run m p h ys 𝓣 bs e (answer.Outcome a) is h′ zs refl))
+
+  pub hand-back-arm : Triple 𝓤 (𝓣 .C #front) (Fronts 𝓤 H A W memory run m p h ys)
+      → Triple 𝓤 (𝓣 .C #hand-back) (shape.HandsBack 𝓤 H A W memory run m p h ys) → (i : ℕ) (x y : Bool) (n : ℕ)
+      → Matched (event.HandBack i x y n)
+  hand-back-arm front-known known i x y n is-e =
+      let e : Event = event.HandBack i x y n in
+      let i-fits = EL.owed X.the-type X′.the-laws (event.HandBack i x y n) _ is-e .0 .1 in
+      let n-fits = EL.owed X.the-type X′.the-laws (event.HandBack i x y n) _ is-e .1 .1 .1 .0 .1 in
+      switches-on ! (load ! (from ! (vrt ! refl (fld ! refl (stop !)))) (look-tag ! 7 (whole !))) $ exec ! (𝓣 .C) (𝓣 .Λ) En (nth-arm 7 s-1) (Then e) $
+      sets ! (of-opd ! (load ! (from ! (vrt ! refl (fld ! {d = 4} refl (stop !)))) (look-in ! 7 (in-variant ! 7 0 {d = 4} refl refl (whole !))))) 22 refl
+      (tt, record { fits = i-fits }) $
+      sets ! (of-opd ! (load ! (from ! (vrt ! refl (fld ! {d = 8} refl (stop !)))) (look-in ! 7 (in-variant ! 7 1 {d = 8} refl refl (whole !))))) 23 refl
+      (tt, tt) $
+      sets ! (of-opd ! (load ! (from ! (vrt ! refl (fld ! {d = 9} refl (stop !)))) (look-in ! 7 (in-variant ! 7 2 {d = 9} refl refl (whole !))))) 24 refl
+      (tt, tt) $
+      sets ! (of-opd ! (load ! (from ! (vrt ! refl (fld ! {d = 16} refl (stop !)))) (look-in ! 7 (in-variant ! 7 3 {d = 16} refl refl (whole !))))) 25 refl
+      (tt, record { fits = n-fits }) $
+      sets ! (addr ! (from ! (hop ! (look ! 5 refl) (stop !)))) 39 refl (tt, tt) $
+      sets ! (addr ! (from ! (hop ! (look ! 6 refl) (stop !)))) 41 refl (tt, tt) $
+      sets ! (agg ! (and-then ! (var ! 41 refl) (and-then ! (big-lit ! (record { fits = lit< tt })) (no-more !)))) 42 refl
+      (tt, (tt, (record { fits = lit< tt }, tt))) $
+      fronts 𝓤 H A W memory run m p h ys 𝓣 ! front-known n n-fits (λ β γ₂ lent. and-then ! (var ! 42 refl) (and-then ! (var ! 25 refl) (no-more !)))
+      (λ β γ₂ l r room.
+      land ! (from ! (stop !)) (init ! 41 refl (tt, (tt, (record { fits = room .0 }, tt)))) $
+      pages 𝓤 H A W memory run m p h ys 𝓣 ! (plain (λ _. bool) ∷ plain (λ _. bool) ∷ []) (yes, (yes, tt)) (hand-back.clauses 𝓤 H A memory run) known i
+      i-fits β γ₂ l r (λ α. (bool-makes 𝓤 H A W, (bool-makes 𝓤 H A W, tt)))
+      (λ α. (x, (y, tt))) (λ α. (vbool x ∷ [], (vbool y ∷ [], tt))) (λ α. (refl, (refl, tt))) (λ α γ₁. tt) (λ α γ₁. id⊢ 𝓤 (emp 𝓤))
+      (λ α γ₁ lent. and-then ! (var ! 38 refl) (and-then ! (var ! 21 refl) (and-then ! (var ! 39 refl)
+      (and-then ! (var ! 22 refl) (and-then ! (var ! 23 refl) (no-more !)))))) (λ a a-is h′ zs.
+      let is = EL.owes N.the-type N′.the-laws (answer.Outcome a) (a-is, tt) in
+      land ! (from ! (stop !)) (init ! 38 refl (typedO 𝓤 H A W a a-is)) $
+      assigns-last ! (agg ! (and-then ! (lit ! tt) (and-then ! (var ! 38 refl) (no-more !)))) (from ! (stop !))
+      (init ! 26 refl (typedN 𝓤 H A W (answer.Outcome a) is)) $ exec ! (𝓣 .C) (𝓣 .Λ) En t-2 (atRet En (Post′ e)) $
+      sets ! (of-opd ! (var ! 26 refl)) 4 refl (typedN 𝓤 H A W (answer.Outcome a) is) $
+      shape.leaves 𝓤 H A W memory run m p h ys 𝓣 bs e (answer.Outcome a) is h′ zs refl))

@@ -13,7 +13,7 @@ pub mod registers;
 pub fn ppr(tpr: u8, isr: [u32; 8]) -> u8
     ensures { λ r. ⌜ r ≡ pprOf tpr (Option·getD (highest isr) 0) ⌝ }
 {
-    let Found::Vector(s) = vector_set::highest_of(isr) else {
+    let Found::Vector(s) = vector_set_search::highest_of(isr) else {
         return tpr;
     };
     if s / 16 <= tpr / 16 {
@@ -55,7 +55,7 @@ pub fn register_value(v: Vcpu, id: u32, r: u32) -> u64
         registers::ICR => v.icr,
         registers::ISR..=registers::ISR_LAST => word_at(isr, r - registers::ISR),
         registers::TMR..=registers::TMR_LAST => word_at(
-            vector_set::union(irr_level, isr_level),
+            vector_set_algebra::union(irr_level, isr_level),
             r - registers::TMR,
         ),
         registers::IRR..=registers::IRR_LAST => word_at(irr, r - registers::IRR),

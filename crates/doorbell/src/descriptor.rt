@@ -81,7 +81,10 @@ fn many_edges(d: &[u8], allowed: [u32; 8], level: Found) -> [u32; 8]
     requires { ⌜ (length (now d) ≡ 32) × (vectorOf level ≡ admitsLevel allowed (now d)) × (bitOf (now d) manyBit ≡ true) ⌝ }
     ensures { λ r. ⌜ r ≡ collect (admitsEdge allowed (now (d .entry))) ⌝ }
 {
-    let marked = vector_set::from_lowest(vector_set::intersection(marks(d), allowed));
+    let marked = vector_set_algebra::from_lowest(vector_set_algebra::intersection(
+        marks(d),
+        allowed,
+    ));
     match level {
         Found::Vector(v) => vector_set::remove(marked, v),
         Found::Nothing => marked,

@@ -51,7 +51,7 @@ pub fn items_of(a: Admitted) -> u32
 {
     let level = a.level;
     let edge = a.edge;
-    a.nmi as u32 + one_found(level) + vector_set::count_of(edge)
+    a.nmi as u32 + one_found(level) + vector_set_search::count_of(edge)
 }
 
 // What a refused notice admits, and a page that announces nothing (4.20).

@@ -33,7 +33,7 @@ fn write_set(d: &mut [u8], s: [u32; 8])
 fn highest_or_0(s: [u32; 8]) -> u8
     ensures { λ r. ⌜ r ≡ Option·getD (highest s) 0 ⌝ }
 {
-    match vector_set::highest_of(s) {
+    match vector_set_search::highest_of(s) {
         Found::Vector(v) => v,
         Found::Nothing => 0,
     }
@@ -57,12 +57,12 @@ fn write_pending(d: &mut [u8], irr: [u32; 8], level: [u32; 8], nmi: bool)
     requires { ⌜ length (now d) ≡ 32 ⌝ }
     ensures { λ _. ⌜ now (d .exit) ≡ bytesFrom (handedBit irr level nmi) 0 32 ⌝ }
 {
-    let edge = vector_set::from_lowest(vector_set::difference(irr, level));
+    let edge = vector_set_algebra::from_lowest(vector_set_algebra::difference(irr, level));
     let vector = highest_or_0(level);
     let flags = flags(
         nmi,
-        !vector_set::is_empty(level),
-        !vector_set::is_empty(edge),
+        !vector_set_search::is_empty(level),
+        !vector_set_search::is_empty(edge),
     );
     write_set(d, edge);
     d[0] = vector;
@@ -81,7 +81,7 @@ fn write_handed(
     requires { ⌜ length (now bytes) ≡ 64 ⌝ }
     ensures { λ _. ⌜ now (bytes .exit) ≡ handedBytes irr «irr_level» nmi isr «isr_level» ⌝ }
 {
-    let serving = vector_set::from_lowest(vector_set::difference(isr, isr_level));
+    let serving = vector_set_algebra::from_lowest(vector_set_algebra::difference(isr, isr_level));
     write_pending(&mut bytes[0..DESCRIPTOR_BYTES], irr, irr_level, nmi);
     write_set(&mut bytes[DESCRIPTOR_BYTES..VMPL_BYTES], serving);
 }

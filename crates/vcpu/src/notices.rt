@@ -14,7 +14,7 @@ fn add_edges(v: Vcpu, nmi: bool, edge: [u32; 8]) -> Vcpu
     ensures { λ r. ⌜ r ≡ withNmi (v .nmi || nmi) (withIrr (union (v .irr) edge) v) ⌝ }
 {
     let irr = v.irr;
-    let pending = vector_set::union(irr, edge);
+    let pending = vector_set_algebra::union(irr, edge);
     let mut w = v;
     w.irr = pending;
     if nmi {

@@ -57,7 +57,7 @@ fn end_vcpu(v: Vcpu) -> Ended
 {
     let isr = v.isr;
     let isr_level = v.isr_level;
-    let Found::Vector(x) = vector_set::highest_of(isr) else {
+    let Found::Vector(x) = vector_set_search::highest_of(isr) else {
         return Ended { value: 0, vcpu: v };
     };
     let service = vector_set::remove(isr, x);

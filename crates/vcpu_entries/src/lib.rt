@@ -36,7 +36,7 @@ fn offer_vector(v: Vcpu, ready: bool) -> Presentation
 {
     let irr = v.irr;
     let isr = v.isr;
-    let Found::Vector(vector) = vector_set::highest_of(irr) else {
+    let Found::Vector(vector) = vector_set_search::highest_of(irr) else {
         return Presentation::Nothing;
     };
     let priority = apic::ppr(v.tpr, isr);

@@ -1,4 +1,4 @@
--- `vector_set::highest_of` meets its contract. The loop's invariant: the words from k on hold no member. Assumes nothing.
+-- `vector_set_search::highest_of` meets its contract. The loop's invariant: the words from k on hold no member. Assumes nothing.
 use mathlib.Core.Path.{_≡_, sym}
 use mathlib.Core.Bool.{false}
 use mathlib.Core.List.{List}
@@ -7,11 +7,11 @@ use Prim.Native.Nat.{ℕ, suc, _+_, _-_, _*_, _≤_, _<_}
 use native.Mathlib.Omega.{arith}
 use lib.ListN.{getD}
 use lib.Count.{leadingZeros}
 use Rattle.vector_set.specs.Sets.{has, highest}
 use Rattle.vector_set.proofs.Laws.{highest-no}
 use Rattle.vector_set.proofs.WordLaws.{array-words, highest-word, zero-word}
-use Rattle.vector_set.proofs.highest_of.Statement.{statement}
-use Rattle.vector_set.proofs.highest_of.Tie as tie
+use Rattle.vector_set_search.proofs.highest_of.Statement.{statement}
+use Rattle.vector_set_search.proofs.highest_of.Tie as tie
 
 abbrev Inv-loop : tie.InvT-loop
 Inv-loop s k₀ k = (k ≤ 8) × ((w : ℕ) → w < 256 → 32 * k ≤ w → has s w ≡ false)

@@ -1,7 +1,7 @@
--- `vector_set::difference` meets its contract: each word is the and of one and the complement of the other. Assumes nothing.
+-- `vector_set_algebra::difference` meets its contract: each word is the and of one and the complement of the other. Assumes nothing.
 use Rattle.vector_set.proofs.WordLaws.{array-words, difference-words, at}
-use Rattle.vector_set.proofs.difference.Statement.{statement}
-use Rattle.vector_set.proofs.difference.Tie as tie
+use Rattle.vector_set_algebra.proofs.difference.Statement.{statement}
+use Rattle.vector_set_algebra.proofs.difference.Tie as tie
 
 returns : tie.Need-returns
 returns c = difference-words (c .args .t1) (c .args .t2) (array-words (c .args .t1) _ (c .good .0)) (array-words (c .args .t2) _ (c .good .1 .0))

@@ -1,4 +1,4 @@
--- `vector_set::count_of` meets its contract. The loop's invariant: k is even, and n members lie in the words before k. Assumes nothing.
+-- `vector_set_search::count_of` meets its contract. The loop's invariant: k is even, and n members lie in the words before k. Assumes nothing.
 use mathlib.Core.Path.{_≡_, refl, sym, ap, _∙_}
 use mathlib.Core.Logic.{⊎-elim}
 use Prim.Native.Nat.{ℕ, suc, _+_, _*_, _-_, _%_, _≤_}
@@ -6,11 +6,11 @@ use native.Mathlib.Omega.{arith}
 use lib.ListN.{getD}
 use lib.Count.{ones}
 use lib.Bits.{bitOr, or-add-and, and-le-l, and-le-r}
 use Rattle.vector_set.specs.Sets.{count, countBelow}
 use Rattle.vector_set.proofs.Laws.{below-le}
 use Rattle.vector_set.proofs.WordLaws.{array-words, count-word}
-use Rattle.vector_set.proofs.count_of.Statement.{statement}
-use Rattle.vector_set.proofs.count_of.Tie as tie
+use Rattle.vector_set_search.proofs.count_of.Statement.{statement}
+use Rattle.vector_set_search.proofs.count_of.Tie as tie
 
 -- two words without a bit have none to count
 none : (x y : ℕ) → bitOr x y ≡ 0 → ones x + ones y ≡ 0

@@ -1,9 +1,9 @@
--- `vector_set::is_empty` meets its contract, by what `highest_of` finds. Assumes nothing.
+-- `vector_set_search::is_empty` meets its contract, by what `highest_of` finds. Assumes nothing.
 use mathlib.Core.Path.{sym, ap, _∙_}
 use borrow.Author.Needs.{needs}
 use Rattle.vector_set.specs.Sets.{isEmpty, isNone, vectorOf}
-use Rattle.vector_set.proofs.is_empty.Statement.{statement}
-use Rattle.vector_set.proofs.is_empty.Tie as tie
+use Rattle.vector_set_search.proofs.is_empty.Statement.{statement}
+use Rattle.vector_set_search.proofs.is_empty.Tie as tie
 
 returns : tie.Need-returns
 unfolding isEmpty

@@ -1,4 +1,3 @@
-pub mod Admits
 pub mod Bytes
 pub mod ClearLaws
 pub mod Notice

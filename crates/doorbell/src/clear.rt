@@ -5,10 +5,10 @@ ghost use lib.Dec.{leb, eqb};
 ghost use lib.ListN.{length};
 ghost use Rattle.model.specs.Doorbell.{bitOf, manyBit, clearsBit};
 ghost use Rattle.doorbell.specs.Clear.{clearing};
-use crate::DESCRIPTOR_BYTES;
 use crate::KEPT_FLAGS;
 use crate::KEPT_MARKS;
-use crate::MANY;
+use descriptor::DESCRIPTOR_BYTES;
+use descriptor::MANY;
 
 // Clears bits 0 to 10 and 14 (4.31).
 fn clear_request(d: &mut [u8])

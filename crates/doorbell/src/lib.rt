@@ -1,15 +1,15 @@
-// The doorbell page: what a host notice admits, and the page after it.
+// The doorbell page: what a host notice admits, as `descriptor` reads it, and the page after it.
 ghost use mathlib.Core.Path.{_≡_};
 ghost use Prim.Native.Nat.{_≤_};
 ghost use lib.ListN.{length};
 ghost use Rattle.vector_set.specs.Bits.{one};
 ghost use Rattle.vector_set.specs.Sets.{vectorOf};
 ghost use Rattle.model.specs.Doorbell.{partOf, noPart, isSome, items, admitted, noticedPage};
+use descriptor::DESCRIPTOR_BYTES;
 use model::Admitted;
 use vector_set::Found;
 
 mod clear;
-mod descriptor;
 
 // The bytes that a page has at least (4.2).
 pub const PAGE_BYTES: usize = 256;
@@ -19,16 +19,6 @@ pub const ANNOUNCEMENTS: usize = 3;
 
 // The bytes of a VMPL: those of VMPL L begin at byte 64 L, with the descriptor (4.7, 10.4).
 pub const VMPL_BYTES: usize = 64;
-
-// The bytes of a descriptor, and of a set.
-pub const DESCRIPTOR_BYTES: usize = 32;
-
-// Bits 8, 10 and 14 of a descriptor, as bits of its byte 1 (4.8, 4.10, 4.12, 4.13).
-pub const NMI: u8 = 0x01;
-
-pub const LEVEL: u8 = 0x04;
-
-pub const MANY: u8 = 0x40;
 
 // What a notice keeps of byte 1: all but bits 8 to 10 and 14 of the descriptor (4.31).
 pub const KEPT_FLAGS: u8 = 0xB8;

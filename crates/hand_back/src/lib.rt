@@ -6,10 +6,10 @@ ghost use lib.ListN.{length};
 ghost use Rattle.vector_set.specs.Bits.{one};
 ghost use Rattle.vector_set.specs.Sets.{has, highest};
 ghost use Rattle.model.specs.Doorbell.{bytesFrom, handedBit, handedBytes, written};
-use doorbell::DESCRIPTOR_BYTES;
-use doorbell::LEVEL;
-use doorbell::MANY;
-use doorbell::NMI;
+use descriptor::DESCRIPTOR_BYTES;
+use descriptor::LEVEL;
+use descriptor::MANY;
+use descriptor::NMI;
 use doorbell::VMPL_BYTES;
 use vector_set::Found;
 

@@ -6,7 +6,8 @@ use native.Mathlib.Omega.{arith}
 use lib.ListN.{length, getD, set, take, drop}
 use lib.Bits.{bitAnd}
 use Rattle.model.specs.Doorbell.{bitOf, manyBit, descriptor, admits, clearsBit, clears}
-use Rattle.doorbell.proofs.Bytes.{mask-clear, mask-set, spliced}
+use Rattle.descriptor.proofs.Masks.{mask-clear, mask-set}
+use Rattle.doorbell.proofs.Bytes.{spliced}
 use Rattle.doorbell.specs.Clear.{clearing}
 use Rattle.doorbell.proofs.Notice.{announces-is, mark-is, page-is, unannounced, announced}
 use borrow.Author.Needs.{needs}

@@ -1,9 +1,9 @@
--- `doorbell::descriptor::byte_at` meets its contract. Assumes nothing.
+-- `descriptor::byte_at` meets its contract. Assumes nothing.
 use mathlib.Core.Path.{refl}
 use borrow.Author.Needs.{needs}
 use native.Mathlib.Omega.{arith}
-use Rattle.doorbell.proofs.descriptor.byte_at.Statement.{statement}
-use Rattle.doorbell.proofs.descriptor.byte_at.Tie as tie
+use Rattle.descriptor.proofs.byte_at.Statement.{statement}
+use Rattle.descriptor.proofs.byte_at.Tie as tie
 
 cast-result : tie.Need-cast-result
 cast-result c = omega (arith, c .shared-slice-known .given (c .before .args .i))

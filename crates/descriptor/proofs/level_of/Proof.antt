@@ -1,13 +1,13 @@
--- `doorbell::descriptor::level_of` meets its contract: by bit 10 and whether the vector may be named. Assumes nothing.
+-- `descriptor::level_of` meets its contract: by bit 10 and whether the vector may be named. Assumes nothing.
 use mathlib.Core.Path.{refl, sym, _∙_}
 use mathlib.Core.Logic.{⊎-elim}
 use lib.ListN.{getD}
 use Rattle.model.specs.Doorbell.{bitOf}
-use Rattle.doorbell.proofs.Bytes.{mask-clear, mask-set}
-use Rattle.doorbell.proofs.Admits.{level-is}
+use Rattle.descriptor.proofs.Masks.{mask-clear, mask-set}
+use Rattle.descriptor.proofs.Admits.{level-is}
 use borrow.Author.Needs.{needs}
-use Rattle.doorbell.proofs.descriptor.level_of.Statement.{statement}
-use Rattle.doorbell.proofs.descriptor.level_of.Tie as tie
+use Rattle.descriptor.proofs.level_of.Statement.{statement}
+use Rattle.descriptor.proofs.level_of.Tie as tie
 
 returns : tie.Need-returns
 unfolding bitOf

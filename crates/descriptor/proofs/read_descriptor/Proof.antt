@@ -1,11 +1,11 @@
--- `doorbell::descriptor::read_descriptor` meets its contract: its three parts are the definition's. Assumes nothing.
+-- `descriptor::read_descriptor` meets its contract: its three parts are the definition's. Assumes nothing.
 use lib.ListN.{getD}
 use Rattle.model.specs.Doorbell.{bitOf}
-use Rattle.doorbell.proofs.Bytes.{mask-clear, mask-set}
-use Rattle.doorbell.proofs.Admits.{admits-is}
+use Rattle.descriptor.proofs.Masks.{mask-clear, mask-set}
+use Rattle.descriptor.proofs.Admits.{admits-is}
 use borrow.Author.Needs.{needs}
-use Rattle.doorbell.proofs.descriptor.read_descriptor.Statement.{statement}
-use Rattle.doorbell.proofs.descriptor.read_descriptor.Tie as tie
+use Rattle.descriptor.proofs.read_descriptor.Statement.{statement}
+use Rattle.descriptor.proofs.read_descriptor.Tie as tie
 
 many-edges-requires : tie.Need-many-edges-requires
 unfolding bitOf

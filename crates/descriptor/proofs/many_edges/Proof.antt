@@ -1,10 +1,10 @@
--- `doorbell::descriptor::many_edges` meets its contract, with and without a level-sensitive vector. Assumes nothing.
+-- `descriptor::many_edges` meets its contract, with and without a level-sensitive vector. Assumes nothing.
 use mathlib.Core.Path.{sym, ap, _∙_}
 use Rattle.vector_set.specs.Sets.{vectorOf}
-use Rattle.doorbell.proofs.Admits.{many-some, many-none}
+use Rattle.descriptor.proofs.Admits.{many-some, many-none}
 use borrow.Author.Needs.{needs}
-use Rattle.doorbell.proofs.descriptor.many_edges.Statement.{statement}
-use Rattle.doorbell.proofs.descriptor.many_edges.Tie as tie
+use Rattle.descriptor.proofs.many_edges.Statement.{statement}
+use Rattle.descriptor.proofs.many_edges.Tie as tie
 
 returns : tie.Need-returns
 returns c =

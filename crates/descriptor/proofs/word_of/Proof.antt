@@ -1,9 +1,9 @@
--- `doorbell::descriptor::word_of` meets its contract: a word is four bytes. Assumes nothing.
+-- `descriptor::word_of` meets its contract: a word is four bytes. Assumes nothing.
 use native.Mathlib.Omega.{arith}
-use Rattle.doorbell.proofs.Bytes.{word-bytes}
+use Rattle.descriptor.proofs.Masks.{word-bytes}
 use borrow.Author.Needs.{needs}
-use Rattle.doorbell.proofs.descriptor.word_of.Statement.{statement}
-use Rattle.doorbell.proofs.descriptor.word_of.Tie as tie
+use Rattle.descriptor.proofs.word_of.Statement.{statement}
+use Rattle.descriptor.proofs.word_of.Tie as tie
 
 returns : tie.Need-returns
 returns c =

@@ -1,14 +1,14 @@
--- `doorbell::descriptor::nmi_of` meets its contract. Assumes nothing.
+-- `descriptor::nmi_of` meets its contract. Assumes nothing.
 use mathlib.Core.Path.{_≡_, ap}
 use mathlib.Core.Bool.{true, false, not}
 use lib.Bits.{bitAnd}
 use lib.ListN.{getD}
 use borrow.Author.Tests.{eq-eqb}
 use Rattle.model.specs.Doorbell.{bitOf, admitsNmi}
-use Rattle.doorbell.proofs.Bytes.{mask-clear, mask-set}
+use Rattle.descriptor.proofs.Masks.{mask-clear, mask-set}
 use borrow.Author.Needs.{needs}
-use Rattle.doorbell.proofs.descriptor.nmi_of.Statement.{statement}
-use Rattle.doorbell.proofs.descriptor.nmi_of.Tie as tie
+use Rattle.descriptor.proofs.nmi_of.Statement.{statement}
+use Rattle.descriptor.proofs.nmi_of.Tie as tie
 
 returns : tie.Need-returns
 unfolding bitOf admitsNmi

@@ -1,9 +1,9 @@
--- `doorbell::descriptor::may_name` meets its contract: no byte is above 255. Assumes nothing.
+-- `descriptor::may_name` meets its contract: no byte is above 255. Assumes nothing.
 use native.Mathlib.Omega.{arith}
 use borrow.Author.Tests.{le-leb, lt-leb}
 use borrow.Author.Needs.{needs}
-use Rattle.doorbell.proofs.descriptor.may_name.Statement.{statement}
-use Rattle.doorbell.proofs.descriptor.may_name.Tie as tie
+use Rattle.descriptor.proofs.may_name.Statement.{statement}
+use Rattle.descriptor.proofs.may_name.Tie as tie
 
 returns : tie.Need-returns
 returns c =

@@ -1,8 +1,8 @@
--- `doorbell::descriptor::marks` meets its contract, word by word. Assumes nothing.
+-- `descriptor::marks` meets its contract, word by word. Assumes nothing.
 use Rattle.vector_set.specs.Sets.{collect, words}
 use borrow.Author.Needs.{needs}
-use Rattle.doorbell.proofs.descriptor.marks.Statement.{statement}
-use Rattle.doorbell.proofs.descriptor.marks.Tie as tie
+use Rattle.descriptor.proofs.marks.Statement.{statement}
+use Rattle.descriptor.proofs.marks.Tie as tie
 
 returns : tie.Need-returns
 unfolding collect words

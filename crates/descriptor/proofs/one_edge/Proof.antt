@@ -1,14 +1,14 @@
--- `doorbell::descriptor::one_edge` meets its contract: by bit 10 and whether the vector may be named. Assumes nothing.
+-- `descriptor::one_edge` meets its contract: by bit 10 and whether the vector may be named. Assumes nothing.
 use mathlib.Core.Path.{refl, sym, ap, _∙_}
 use mathlib.Core.Logic.{⊎-elim}
 use lib.ListN.{getD}
 use Rattle.vector_set.specs.Sets.{insert}
 use Rattle.model.specs.Doorbell.{bitOf}
-use Rattle.doorbell.proofs.Bytes.{mask-clear, mask-set}
-use Rattle.doorbell.proofs.Admits.{one-is}
+use Rattle.descriptor.proofs.Masks.{mask-clear, mask-set}
+use Rattle.descriptor.proofs.Admits.{one-is}
 use borrow.Author.Needs.{needs}
-use Rattle.doorbell.proofs.descriptor.one_edge.Statement.{statement}
-use Rattle.doorbell.proofs.descriptor.one_edge.Tie as tie
+use Rattle.descriptor.proofs.one_edge.Statement.{statement}
+use Rattle.descriptor.proofs.one_edge.Tie as tie
 
 returns : tie.Need-returns
 unfolding bitOf

@@ -6,13 +6,20 @@ ghost use lib.ListN.{length, getD};
 ghost use Rattle.vector_set.specs.Bits.{bits};
 ghost use Rattle.vector_set.specs.Sets.{has, collect, vectorOf};
 ghost use Rattle.model.specs.Doorbell.{bitOf, manyBit, isVector, partOf, admitsNmi, admitsLevel, admitsEdge, admits};
-use crate::LEVEL;
-use crate::MANY;
-use crate::NMI;
 use model::Admitted;
 use model::NMI_VECTOR;
 use vector_set::Found;
 use vector_set::LOWEST;
+
+// The bytes of a descriptor, and of a set.
+pub const DESCRIPTOR_BYTES: usize = 32;
+
+// Bits 8, 10 and 14 of a descriptor, as bits of its byte 1 (4.8, 4.10, 4.12, 4.13).
+pub const NMI: u8 = 0x01;
+
+pub const LEVEL: u8 = 0x04;
+
+pub const MANY: u8 = 0x40;
 
 fn byte_at(d: &[u8], i: usize) -> u32
     requires { ⌜ i < length (now d) ⌝ }

@@ -1,13 +1,8 @@
--- What the calls' proofs share: an accepted call in the terms of `callOn`, and the EOI by what the search of the set in service finds.
+-- What the calls' proofs share: an accepted call in the terms of `callOn`.
 -- Assumes nothing.
 use mathlib.Core.Path.{_≡_, refl, sym, ap, _∙_}
-use mathlib.Core.Bool.{Bool, false, cond}
-use mathlib.Core.List.{List}
-use mathlib.Core.Option.{Option}
+use mathlib.Core.Bool.{false}
 use Prim.Native.Nat.{ℕ}
-use Rattle.vector_set.specs.declared.Found.{Found}
-use Rattle.vector_set.specs.declared.Found.the-variants.{Vector, Nothing}
-use Rattle.vector_set.specs.Sets.{has, remove, highest, vectorOf}
 use Rattle.model.specs.declared.Local.{Local}
 use Rattle.model.specs.declared.Local.the-variants as local
 use Rattle.model.specs.declared.Outcome.the-variants as outcome
@@ -17,13 +12,11 @@ use Rattle.model.specs.declared.Refusal.the-variants.{NotActive}
 use Rattle.model.specs.declared.Request.{Request}
 use Rattle.model.specs.declared.Request.the-variants as request
 use Rattle.model.specs.declared.Vcpu.{Vcpu}
-use Rattle.model.specs.State.{isActive, withIsr, withIsrLevel}
-use Rattle.model.specs.Registers.{ended, endedAt, endedLevel, endedLevelAt}
+use Rattle.model.specs.State.{isActive}
 use Rattle.model.specs.Codes.{Verdict, accept, refuse, need}
 use Rattle.model.specs.Requests.{Served, forget, always, serve, requestOf, callVerdict}
 use Rattle.model.specs.Events.{Effect, callEffect, call, vcpuVerdict}
 use Rattle.vcpu.specs.declared.VcpuCalled.{VcpuCalled}
-use Rattle.vcpu_calls.specs.declared.Ended.{Ended}
 use Rattle.vcpu.specs.declared.Reply.the-variants.{Gives}
 use Rattle.vcpu.specs.Records.{callOn, calledOut}
 
@@ -79,19 +72,3 @@ module _ (i k op ecx rdx : ℕ) (v : Vcpu) where
       → calledOut r ≡ callOn (vcpuVerdict i k v (call op ecx rdx)) (requestOf op ecx rdx) i k v
   unfolding vcpuVerdict callOn callEffect
   not-asked r inactive gave = rw inactive (ap calledOut gave)
-
--- the EOI where the search found o
-ends : Option ℕ → Vcpu → Ended
-ends o v = record { value = endedLevelAt o (v .«isr_level»); vcpu = endedAt o v }
-
-pub ends-none : (v : Vcpu) (f : Found) → f ≡ Nothing → vectorOf f ≡ highest (v .isr)
-    → _≡_ {A = Ended} (record { value = 0; vcpu = v }) (record { value = endedLevel v; vcpu = ended v })
-unfolding ends ended endedAt endedLevel endedLevelAt
-ends-none v f told found = ap (λ (o : Option ℕ). ends o v) (sym (ap vectorOf told) ∙ found)
-
--- x ends; s and l are the sets without it, and b says whether it was level-sensitive
-pub ends-some : (v : Vcpu) (x : ℕ) (s l : List ℕ) (b : Bool) (f : Found) → f ≡ Vector x → vectorOf f ≡ highest (v .isr)
-    → s ≡ remove x (v .isr) → l ≡ remove x (v .«isr_level») → b ≡ has (v .«isr_level») x
-    → _≡_ {A = Ended} (record { value = cond b x 0; vcpu = withIsrLevel l (withIsr s v) }) (record { value = endedLevel v; vcpu = ended v })
-unfolding ends ended endedAt endedLevel endedLevelAt
-ends-some v x s l b f told found es el eb = rw (es, el, eb) (ap (λ (o : Option ℕ). ends o v) (sym (ap vectorOf told) ∙ found))

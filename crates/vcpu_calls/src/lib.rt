@@ -1,13 +1,7 @@
 // Guest calls on the caller's record and the registration count.
 ghost use mathlib.Core.Path.{_≡_};
-ghost use mathlib.Core.Bool.{cond};
-ghost use Prim.Native.Nat.{_-_};
-ghost use lib.Dec.{eqb};
-ghost use Rattle.vector_set.specs.Sets.{insert, remove};
-ghost use Rattle.model.specs.State.{withAllowed, withTpr};
-ghost use Rattle.model.specs.Registers.{ended, endedLevel};
 ghost use Rattle.model.specs.Codes.{accept};
-ghost use Rattle.model.specs.Requests.{forget, leaveIf, requestOf, serve};
+ghost use Rattle.model.specs.Requests.{forget, requestOf, serve};
 ghost use Rattle.model.specs.Events.{Act, vcpuVerdict};
 ghost use Rattle.vcpu.specs.Records.{callOn, calledOut};
 use model::InFlight;
@@ -22,7 +16,11 @@ use vcpu::Reply;
 use vcpu::VcpuCalled;
 use vcpu::items;
 use vcpu::records;
-use vector_set::Found;
+use vcpu_steps::end_vcpu;
+use vcpu_steps::leave_at;
+use vcpu_steps::permit;
+use vcpu_steps::released;
+use vcpu_steps::set_tpr;
 
 // An accepted call that sends nothing.
 fn done(value: u64, vcpu: Vcpu, registrations: u8) -> VcpuCalled
@@ -45,55 +43,6 @@ fn refused(c: Refusal, vcpu: Vcpu, registrations: u8) -> VcpuCalled
     }
 }
 
-// The number that an EOI gives, and the record after it.
-pub struct Ended {
-    pub value: u64,
-    pub vcpu: Vcpu,
-}
-
-// The highest vector in service ends; the value names it if it was level-sensitive (6.25 to 6.28).
-fn end_vcpu(v: Vcpu) -> Ended
-    ensures { λ r. ⌜ r ≡ record { value = endedLevel v; vcpu = ended v } ⌝ }
-{
-    let isr = v.isr;
-    let isr_level = v.isr_level;
-    let Found::Vector(x) = vector_set_search::highest_of(isr) else {
-        return Ended { value: 0, vcpu: v };
-    };
-    let service = vector_set::remove(isr, x);
-    let service_level = vector_set::remove(isr_level, x);
-    let mut w = v;
-    w.isr = service;
-    w.isr_level = service_level;
-    if vector_set::contains(isr_level, x) {
-        return Ended {
-            value: x as u64,
-            vcpu: w,
-        };
-    }
-    Ended { value: 0, vcpu: w }
-}
-
-// The vCPU is leaving where the count is 0 (5.8).
-fn leave_at(v: Vcpu, registrations: u8) -> Vcpu
-    ensures { λ r. ⌜ r ≡ leaveIf (eqb registrations 0) v ⌝ }
-{
-    if registrations == 0 {
-        return records::with_phase(v, Phase::Leaving);
-    }
-    v
-}
-
-// One registration less; none less than 0 (5.9, 5.10).
-fn released(registrations: u8) -> u8
-    ensures { λ r. ⌜ r ≡ registrations - 1 ⌝ }
-{
-    if registrations == 0 {
-        return 0;
-    }
-    registrations - 1
-}
-
 // One registration more, where there is at least one and there are at most 254 (5.11, 5.12).
 fn register(v: Vcpu, registrations: u8) -> VcpuCalled
     ensures { λ r. ⌜ calledOut r ≡ callOn (serve Local.Register 0 registrations (forget v) .verdict) (Request.Local Local.Register) 0 registrations v ⌝ }
@@ -109,30 +58,6 @@ fn register(v: Vcpu, registrations: u8) -> VcpuCalled
         records::with_flight(v, InFlight::Nothing),
         registrations + 1,
     )
-}
-
-// The vector is allowed, or no longer (5.16, 5.19).
-fn permit(v: Vcpu, x: u8, allow: bool) -> Vcpu
-    ensures { λ r. ⌜ r ≡ withAllowed (cond allow (insert x (v .allowed)) (remove x (v .allowed))) v ⌝ }
-{
-    let allowed = v.allowed;
-    let mut w = v;
-    if allow {
-        let more = vector_set::insert(allowed, x);
-        w.allowed = more;
-        return w;
-    }
-    let less = vector_set::remove(allowed, x);
-    w.allowed = less;
-    w
-}
-
-fn set_tpr(v: Vcpu, x: u8) -> Vcpu
-    ensures { λ r. ⌜ r ≡ withTpr x v ⌝ }
-{
-    let mut w = v;
-    w.tpr = x;
-    w
 }
 
 // A call that touches the caller's record and the count alone. What was in flight is forgotten first (5.3).

@@ -13,7 +13,7 @@ use Rattle.model.specs.State.{withAllowed, withTpr}
 use Rattle.model.specs.Registers.{registerValue, ended, endedLevel}
 use Rattle.model.specs.Items.{mark}
 use Rattle.model.specs.Requests.{forget, leaveIf, always, serve}
-use Rattle.vcpu_calls.specs.declared.Ended.{Ended}
+use Rattle.vcpu_steps.specs.declared.Ended.{Ended}
 use Rattle.vcpu_calls.proofs.CallsLaws.{served-as, registered-as}
 use Rattle.vcpu_calls.proofs.serve_local.Statement.{statement}
 use Rattle.vcpu_calls.proofs.serve_local.Tie as tie

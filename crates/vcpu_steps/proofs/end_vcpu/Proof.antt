@@ -1,10 +1,10 @@
--- `vcpu_calls::end_vcpu` meets its contract: what the search of the set in service finds ends. Assumes nothing.
+-- `vcpu_steps::end_vcpu` meets its contract: what the search of the set in service finds ends. Assumes nothing.
 use mathlib.Core.Path.{sym, _∙_}
 use mathlib.Core.Bool.{true, false}
 use borrow.Author.Needs.{needs}
-use Rattle.vcpu_calls.proofs.CallsLaws.{ends-none, ends-some}
-use Rattle.vcpu_calls.proofs.end_vcpu.Statement.{statement}
-use Rattle.vcpu_calls.proofs.end_vcpu.Tie as tie
+use Rattle.vcpu_steps.proofs.EndLaws.{ends-none, ends-some}
+use Rattle.vcpu_steps.proofs.end_vcpu.Statement.{statement}
+use Rattle.vcpu_steps.proofs.end_vcpu.Tie as tie
 
 returns : tie.Need-returns
 returns c = ends-none _ _ (c .enum-told .given .1) (c .before .before .highest-of .ensures)

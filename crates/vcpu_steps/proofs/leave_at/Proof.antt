@@ -1,8 +1,8 @@
--- `vcpu_calls::leave_at` meets its contract: by the test of the count. Assumes nothing.
+-- `vcpu_steps::leave_at` meets its contract: by the test of the count. Assumes nothing.
 use borrow.Author.Needs.{needs}
 use borrow.Author.Tests.{eq-eqb, ne-eqb}
-use Rattle.vcpu_calls.proofs.leave_at.Statement.{statement}
-use Rattle.vcpu_calls.proofs.leave_at.Tie as tie
+use Rattle.vcpu_steps.proofs.leave_at.Statement.{statement}
+use Rattle.vcpu_steps.proofs.leave_at.Tie as tie
 
 returns : tie.Need-returns
 returns c = rw (eq-eqb _ _ (c .before .if1 .taken)) (c .with-phase .ensures)

@@ -1,11 +1,11 @@
--- `vcpu_calls::permit` meets its contract: the set with the vector, or without it. Assumes nothing.
+-- `vcpu_steps::permit` meets its contract: the set with the vector, or without it. Assumes nothing.
 use mathlib.Core.Path.{ap}
 use mathlib.Core.List.{List}
 use Prim.Native.Nat.{ℕ}
 use borrow.Author.Needs.{needs}
 use Rattle.model.specs.State.{withAllowed}
-use Rattle.vcpu_calls.proofs.permit.Statement.{statement}
-use Rattle.vcpu_calls.proofs.permit.Tie as tie
+use Rattle.vcpu_steps.proofs.permit.Statement.{statement}
+use Rattle.vcpu_steps.proofs.permit.Tie as tie
 
 returns : tie.Need-returns
 returns c =

@@ -1,4 +1,1 @@
-pub mod Numbers
-pub mod Words
-pub mod Pages
 pub mod Lines

@@ -8,16 +8,16 @@ use native.Mathlib.Omega.{arith}
 use lib.Dec.{eqb}
 use lib.ListN.{length, getD, List·getD-eq-default}
 use borrow.Author.Tests.{eq-eqb, lt-ltb, le-ltb, eqb-true}
-use Rattle.trace_words.specs.declared.Number.{Number}
-use Rattle.trace_words.specs.declared.Number.the-variants.{Value, Invalid}
+use Rattle.trace.specs.declared.Number.{Number}
+use Rattle.trace.specs.declared.Number.the-variants.{Value, Invalid}
 use Rattle.trace.specs.declared.Event.{Event}
 use Rattle.trace.specs.declared.Event.the-variants.{Nothing, Unreadable, State}
 use Rattle.trace.specs.declared.Name.{Name}
-use Rattle.trace_words.specs.Words.{words, first, rest, same}
-use Rattle.trace_words.specs.Pages.{Bytes, told, garbled}
+use Rattle.trace.specs.Words.{words, first, rest, same}
+use Rattle.trace.specs.Pages.{Bytes, told, garbled}
 use Rattle.trace.specs.Lines.{Made, given, taking, only, paged, start, call, entry, nonDelivery}
 use Rattle.trace.specs.Lines.{nameIn, nameOf, named, spoken, isComment, eventOf, PageIs}
-use Rattle.trace_words.proofs.Cells.{clash}
+use Rattle.trace.proofs.Reading.{clash}
 
 -- ---- what follows the arguments
 pub only-none : (ws : List (List ℕ)) (e : Event) → ws ≡ [] → e ≡ only ws e

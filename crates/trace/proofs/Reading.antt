@@ -10,14 +10,16 @@ use lib.Dec.{eqb, leb}
 use lib.ListN.{length, getD, drop, set}
 use lib.Seq.{getD-set-same, getD-set-other}
 use borrow.Author.Tests.{leb-true, eqb-true, eqb-false}
-use Rattle.trace_words.specs.declared.Number.{Number}
-use Rattle.trace_words.specs.declared.Number.the-variants.{Value, Invalid}
+use Rattle.trace.specs.declared.Number.{Number}
+use Rattle.trace.specs.declared.Number.the-variants.{Value, Invalid}
 use Rattle.trace.specs.declared.Event.{Event}
 use Rattle.trace.specs.declared.Event.the-variants.{Unreadable}
-use Rattle.trace_words.specs.Numbers.{numberOf, upTo}
-use Rattle.trace_words.specs.Words.{first, rest}
+use Rattle.trace.specs.Numbers.{numberOf, upTo}
+use Rattle.trace.specs.Words.{first, rest}
 use Rattle.trace.specs.Lines.{Made, given, taking, applied}
-use Rattle.trace_words.proofs.Cells.{clash}
+
+pub clash : {A : Type 0} → _≡_ {A = ℕ} 0 1 → A
+clash e = let z : ⊥ = omega arith in absurd z
 
 -- a number that was read is within its limit
 up-to-small : (most v : ℕ) (n : Number) → upTo most n ≡ Value v → v ≤ most

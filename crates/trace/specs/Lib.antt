@@ -1,1 +1,4 @@
+pub mod Numbers
+pub mod Words
+pub mod Pages
 pub mod Lines

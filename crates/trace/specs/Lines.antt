@@ -6,15 +6,15 @@ use mathlib.Core.List.{List, [], _∷_}
 use Prim.Native.Nat.{ℕ, suc, _≤_, _<_}
 use lib.Dec.{eqb, ltb}
 use lib.ListN.{length, getD, drop}
-use Rattle.trace_words.specs.declared.Number.{Number}
-use Rattle.trace_words.specs.declared.Number.the-variants.{Value, Invalid}
+use Rattle.trace.specs.declared.Number.{Number}
+use Rattle.trace.specs.declared.Number.the-variants.{Value, Invalid}
 use Rattle.trace.specs.declared.Arguments.{Arguments}
 use Rattle.trace.specs.declared.Name.{Name}
 use Rattle.trace.specs.declared.Name.the-variants as name
 use Rattle.trace.specs.declared.Event.{Event}
 use Rattle.trace.specs.declared.Event.the-variants.{Nothing, Unreadable, Start, Notice, Call, Entry, NonDelivery, HandBack, State}
-use Rattle.trace_words.specs.Words.{ascii, words, first, rest, same}
-use Rattle.trace_words.specs.Pages.{Bytes, told, garbled, fill, zeros}
+use Rattle.trace.specs.Words.{ascii, words, first, rest, same}
+use Rattle.trace.specs.Pages.{Bytes, told, garbled, fill, zeros}
 
 -- ---- arguments
 -- the limits: a number of 32 bits or of 64, a flag, the length of a page

@@ -1,13 +1,13 @@
 // Reading a line of a trace into an event.
+mod numbers;
+mod pages;
+mod words;
+
 ghost use mathlib.Core.Path.{_≡_};
 ghost use Prim.Native.Nat.{_≤_};
 ghost use lib.ListN.{length, drop};
-ghost use Rattle.trace_words.specs.Words.{words, rest, same};
-ghost use Rattle.trace.specs.Lines.{Taken, only, start, notice, call, entry, nonDelivery, handBack, nameOf, named, isComment, eventOf, PageIs};
-use trace_words::Number;
-use trace_words::numbers;
-use trace_words::pages;
-use trace_words::words;
+ghost use Rattle.trace.specs.Words.{words, rest};
+ghost use Rattle.trace.specs.Lines.{only, start, notice, call, entry, nonDelivery, handBack, nameOf, named, isComment, eventOf, PageIs};
 
 // The limits of arguments: a number of 32 bits or of 64, a flag, the length of a page.
 const MAX32: u64 = 0xFFFF_FFFF;
@@ -69,6 +69,17 @@ enum Name {
     Unknown,
 }
 
+enum Number {
+    Value(u64),
+    Invalid,
+}
+
+// A word of a line as a number, with the place after the word.
+struct Argument {
+    number: Number,
+    next: usize,
+}
+
 // The next words of a line as numbers, with the place after them. `valid`: each of them is a number up to its limit.
 struct Arguments {
     values: [u64; 4],
@@ -76,36 +87,10 @@ struct Arguments {
     next: usize,
 }
 
-// ---- arguments
-
-// The next words from `at` on as numbers, one for each limit and at most that large.
-fn arguments_at(s: &[u8], at: usize, limits: &[u64]) -> Arguments
-    requires { ⌜ at ≤ length (now s) ⌝ }
-    requires { ⌜ length (now limits) ≤ 4 ⌝ }
-    ensures { λ r. ⌜ Taken (now (limits .entry)) (drop at (now (s .entry))) (now (s .entry)) r ⌝ }
-{
-    let mut values = [0; 4];
-    let mut next = at;
-    let mut k = 0;
-    while k < limits.len() {
-        let argument = numbers::argument_at(s, next, limits[k]);
-        next = argument.next;
-        let number = argument.number;
-        let Number::Value(value) = number else {
-            return Arguments {
-                values,
-                valid: false,
-                next,
-            };
-        };
-        values[k] = value;
-        k += 1;
-    }
-    Arguments {
-        values,
-        valid: true,
-        next,
-    }
+// One byte of a page.
+enum Cell {
+    Byte { offset: usize, value: u8 },
+    Malformed,
 }
 
 // ---- events: each function reads what follows the name
@@ -127,7 +112,7 @@ fn read_start(s: &[u8], at: usize) -> Event
     requires { ⌜ at ≤ length (now s) ⌝ }
     ensures { λ r. ⌜ r ≡ start (words (drop at (now (s .entry)))) ⌝ }
 {
-    let a = arguments_at(s, at, &[MAX32, MAX32]);
+    let a = numbers::arguments_at(s, at, &[MAX32, MAX32]);
     if a.valid {
         let e = Event::Start {
             n: a.values[0] as u32,
@@ -145,7 +130,7 @@ fn read_notice(s: &[u8], at: usize, page: &mut [u8; 4096]) -> Event
     ensures { λ r. ⌜ r ≡ notice (words (drop at (now (s .entry)))) ⌝ }
     ensures { λ r. ⌜ PageIs (words (drop at (now (s .entry)))) r (now (page .exit)) ⌝ }
 {
-    let a = arguments_at(s, at, &[MAX32, MAX_LENGTH]);
+    let a = numbers::arguments_at(s, at, &[MAX32, MAX_LENGTH]);
     if a.valid {
         let length = a.values[1] as usize;
         if pages::fill(s, a.next, length, page) {
@@ -166,7 +151,7 @@ fn read_call(s: &[u8], at: usize) -> Event
     requires { ⌜ at ≤ length (now s) ⌝ }
     ensures { λ r. ⌜ r ≡ call (words (drop at (now (s .entry)))) ⌝ }
 {
-    let a = arguments_at(s, at, &[MAX32, MAX32, MAX32, MAX64]);
+    let a = numbers::arguments_at(s, at, &[MAX32, MAX32, MAX32, MAX64]);
     if a.valid {
         let e = Event::Call {
             vcpu: a.values[0] as u32,
@@ -185,7 +170,7 @@ fn read_entry(s: &[u8], at: usize) -> Event
     requires { ⌜ at ≤ length (now s) ⌝ }
     ensures { λ r. ⌜ r ≡ entry (words (drop at (now (s .entry)))) ⌝ }
 {
-    let a = arguments_at(s, at, &[MAX32, MAX_FLAG, MAX_FLAG, MAX_FLAG]);
+    let a = numbers::arguments_at(s, at, &[MAX32, MAX_FLAG, MAX_FLAG, MAX_FLAG]);
     if a.valid {
         let e = Event::Entry {
             vcpu: a.values[0] as u32,
@@ -204,7 +189,7 @@ fn read_non_delivery(s: &[u8], at: usize) -> Event
     requires { ⌜ at ≤ length (now s) ⌝ }
     ensures { λ r. ⌜ r ≡ nonDelivery (words (drop at (now (s .entry)))) ⌝ }
 {
-    let a = arguments_at(s, at, &[MAX32]);
+    let a = numbers::arguments_at(s, at, &[MAX32]);
     if a.valid {
         let e = Event::NonDelivery {
             vcpu: a.values[0] as u32,
@@ -221,7 +206,7 @@ fn read_hand_back(s: &[u8], at: usize, page: &mut [u8; 4096]) -> Event
     ensures { λ r. ⌜ r ≡ handBack (words (drop at (now (s .entry)))) ⌝ }
     ensures { λ r. ⌜ PageIs (words (drop at (now (s .entry)))) r (now (page .exit)) ⌝ }
 {
-    let a = arguments_at(s, at, &[MAX32, MAX_FLAG, MAX_FLAG, MAX_LENGTH]);
+    let a = numbers::arguments_at(s, at, &[MAX32, MAX_FLAG, MAX_FLAG, MAX_LENGTH]);
     if a.valid {
         let length = a.values[3] as usize;
         if pages::fill(s, a.next, length, page) {
@@ -241,34 +226,28 @@ fn read_hand_back(s: &[u8], at: usize, page: &mut [u8; 4096]) -> Event
 
 // ---- lines
 
-fn is(word: &[u8], name: &[u8]) -> bool
-    ensures { λ r. ⌜ r ≡ same (now (word .entry)) (now (name .entry)) ⌝ }
-{
-    check::same(word, name)
-}
-
 fn name_of(word: &[u8]) -> Name
     ensures { λ r. ⌜ r ≡ nameOf (now (word .entry)) ⌝ }
 {
-    if is(word, b"start") {
+    if words::is(word, b"start") {
         return Name::Start;
     }
-    if is(word, b"notice") {
+    if words::is(word, b"notice") {
         return Name::Notice;
     }
-    if is(word, b"call") {
+    if words::is(word, b"call") {
         return Name::Call;
     }
-    if is(word, b"entry") {
+    if words::is(word, b"entry") {
         return Name::Entry;
     }
-    if is(word, b"nondelivery") {
+    if words::is(word, b"nondelivery") {
         return Name::NonDelivery;
     }
-    if is(word, b"handback") {
+    if words::is(word, b"handback") {
         return Name::HandBack;
     }
-    if is(word, b"state") {
+    if words::is(word, b"state") {
         return Name::State;
     }
     Name::Unknown

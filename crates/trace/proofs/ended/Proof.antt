@@ -1,7 +1,7 @@
 -- `trace::ended` meets its contract.
 -- Assumes nothing.
 use mathlib.Core.Path.{refl}
-use Rattle.trace_words.proofs.Text.{begun-at, blank-at}
+use Rattle.trace.proofs.Text.{begun-at, blank-at}
 use Rattle.trace.proofs.Events.{only-some, only-none}
 use borrow.Author.Needs.{needs}
 use Rattle.trace.proofs.ended.Statement.{statement}

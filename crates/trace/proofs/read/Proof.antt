@@ -3,9 +3,9 @@
 use mathlib.Core.Path.{_≡_, sym, ap, _∙_}
 use mathlib.Core.Bool.{false}
 use native.Mathlib.Omega.{arith}
-use Rattle.trace_words.specs.Words.{rest}
+use Rattle.trace.specs.Words.{rest}
 use Rattle.trace.specs.Lines.{isComment}
-use Rattle.trace_words.proofs.Text.{begun-at, blank-at}
+use Rattle.trace.proofs.Text.{begun-at, blank-at}
 use Rattle.trace.proofs.Events.{event-comment, event-long, event-blank, event-named, renamed, repaged}
 use borrow.Author.Needs.{needs}
 use Rattle.trace.proofs.read.Statement.{statement}

@@ -1,4 +1,0 @@
-pub mod Text
-pub mod Digits
-pub mod Cells
-pub mod ReadBack

@@ -1,4 +1,4 @@
-//! The cases worked here (14.21 to 14.43), on an implementation that was written apart from the definitions.
+//! The cases worked here (14.21 to 14.44), on an implementation that was written apart from the definitions.
 
 mod common;
 
@@ -286,4 +286,27 @@ fn a_worked_list() {
     let mut p = page(&[]);
     assert_eq!(hand_back(&mut m, 0, &mut p, true, false), Ok(65537));
     assert_eq!(p, page(&[(104, 0x02)]));
+}
+
+/// 14.44, the tallies apart
+#[test]
+fn a_worked_list_of_two() {
+    let mut m: Module = fresh(2, 1);
+    let nmi = Ok(Shown::Presented(Item::Nmi));
+    assert_eq!(call(&mut m, 0, 4, 0x102, 0), Ok(0));
+    assert_eq!(notice(&mut m, 0, &mut page(&[(3, 1), (65, 0x01)])), Ok(1));
+    assert_eq!(write(&mut m, 0, ICR, 0xC4400), Ok(2));
+    assert_eq!(entry(&mut m, 1, true, false, false), nmi);
+    assert_eq!(non_delivery(&mut m, 1), Ok(0));
+    assert_eq!(entry(&mut m, 1, true, false, false), nmi);
+    assert_eq!(write(&mut m, 1, ICR, 0x84041), Ok(3));
+    assert_eq!(call(&mut m, 0, 1, DEREGISTER, 0), Ok(0));
+    assert_eq!(write(&mut m, 1, ICR, 0x84041), Ok(2));
+    let mut p = page(&[]);
+    assert_eq!(hand_back(&mut m, 0, &mut p, true, false), Ok(65537));
+    assert_eq!(p, page(&[(65, 0x41), (72, 0x02)]));
+    assert_eq!(call(&mut m, 1, 1, 0, 0), Ok(0));
+    let mut p = page(&[]);
+    assert_eq!(hand_back(&mut m, 1, &mut p, false, true), Ok(65538));
+    assert_eq!(p, page(&[(65, 0x40), (72, 0x02)]));
 }

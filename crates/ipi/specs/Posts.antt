@@ -11,6 +11,7 @@ use Rattle.model.specs.State.{withIrr, withNmi}
 use Rattle.model.specs.Items.{mark}
 use Rattle.ipi.specs.declared.Posting.{Posting}
 
+-- what makes an item pending: the NMI by its mark, a vector by its bit (7.17)
 unfoldable pub postingOf : Item → Posting
 postingOf Nmi = record { nmi = true; word = 0; bits = 0 }
 postingOf (Vector v) = record { nmi = false; word = v / 32; bits = 2 ^ (v % 32) }

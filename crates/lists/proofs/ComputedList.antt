@@ -1,4 +1,4 @@
--- The worked list, computed.
+-- The worked lists, computed.
 -- Assumes nothing.
 use mathlib.Core.Path.{refl}
 use Rattle.vector_set.specs.Bits.{bits}
@@ -13,14 +13,14 @@ use Rattle.model.specs.Requests.{registration, writeValue, nameable, permission
 use Rattle.model.specs.Events.{noticed, offerHighest, offer, present, entered, emptied, handed, handBackResult}
 use Rattle.model.specs.Events.{vcpuVerdict, verdict, callEffect, effect, concluded, step, run, giveBack, undelivered}
 use Rattle.lists.specs.Book.{bookOf, recordAt, withRecord, withCount, leavesAtZero, takesOne}
-use Rattle.lists.specs.Book.{addsOne, registers, permits, called, leaves, feedAct, partOn}
-use Rattle.lists.specs.Lists.{results, handBackPages, pages, struck, notices}
+use Rattle.lists.specs.Book.{addsOne, registers, permits, called, leaves, feedAct, partOn, parts}
+use Rattle.lists.specs.Lists.{results, handBackPages, pages, struck, same, notices, neither, both}
 use Rattle.lists.specs.Ledger.{writeSends, postAct, ledger}
-use Rattle.lists.specs.WorkedList.{listed, WorkedList}
+use Rattle.lists.specs.WorkedList.{listed, paired, judged, WorkedList}
 use Rattle.model.specs.Ipi.{icrFixedBits, icrIsFixed, icrIsNmi, icrLegal, icrItem, icrTarget, hits, reach, mapFrom, sent, reachedBits}
 
 pub worked-list : WorkedList
-unfolding listed bookOf recordAt withRecord withCount leavesAtZero takesOne addsOne registers permits called leaves feedAct
+unfolding listed paired judged parts bookOf recordAt withRecord withCount leavesAtZero takesOne addsOne registers permits called leaves feedAct
     partOn results handBackPages pages struck writeSends postAct ledger run giveBack undelivered icrFixedBits icrIsFixed icrIsNmi icrLegal icrItem
     icrTarget hits reach mapFrom sent reachedBits bits has words collect empty full insert remove union difference highestBelow highest countBelow
     count isEmpty wordOf bare size vcpuAt started start stopped withVcpu withRegistrations mark unmark markAll unmarkAll bitOf bytesFrom mapBits
@@ -28,4 +28,10 @@ unfolding listed bookOf recordAt withRecord withCount leavesAtZero takesOne adds
     written isRead isWrite isBoth kindOf pprOf ppr ldr tmr registerValue endedAt ended endedLevelAt endedLevel registration writeValue nameable
     permission requestOf serve callVerdict noticed offerHighest offer present entered emptied handed handBackResult vcpuVerdict verdict callEffect
     effect concluded step
-worked-list = record { listed = refl; different = notices refl }
+worked-list =
+    record {
+      listed = refl;
+      paired = refl;
+      judged = refl;
+      different = both (notices refl) (both same (both (notices refl) neither));
+    }

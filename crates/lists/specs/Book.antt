@@ -46,7 +46,7 @@ pub record Book : Type 0 where
 abbrev pub recordOf : Vcpu → BookRecord
 recordOf v = record { phase = v .phase; allowed = v .allowed }
 
--- at first as in a module, whose n is that with which it is answered (12.8)
+-- at first as in a module, whose n is that with which it is answered (2.15, 12.8, 13.28)
 unfoldable pub bookOf : Module → Book
 bookOf m = record { n = size m; count = m .registrations; records = map recordOf (m .vcpus) }
 
@@ -99,11 +99,11 @@ permits i c w =
 unfoldable pub called : ℕ → ℕ → ℕ → Book → Book
 called i op c w = cond (eqb op 1) (registers i c w) (cond (eqb op 4) (permits i c w) w)
 
--- the hand-back of a vCPU i that is leaving (12.16)
+-- the vCPU i has left (12.16)
 unfoldable pub leaves : ℕ → Book → Book
 leaves i w = withRecord i (record { phase = Left; allowed = empty }) w
 
--- an act on the vCPU i: two calls and the hand-back change the book, nothing else does (12.10, 12.11, 12.17)
+-- an act on the vCPU i: two calls and the hand-back change the book, nothing else does (12.10, 12.11, 12.16, 12.17)
 unfoldable pub feedAct : ℕ → Act ℕ → Book → Book
 feedAct i (notice len) w = w
 feedAct i (call op c x) w = cond (ltb i (w .n) && isActive (recordAt w i .phase)) (called i op c w) w
@@ -114,7 +114,7 @@ feedAct i (handBack len iF sh) w = cond (ltb i (w .n) && isLeaving (recordAt w i
 abbrev pub feed : Book → Note → Book
 feed w e = feedAct (e .vcpu) (e .act) w
 
--- the book after a list
+-- the book after a list (12.9)
 unfoldable pub feedAll : Book → List Note → Book
 feedAll w [] = w
 feedAll w (e ∷ es) = feedAll (feed w e) es

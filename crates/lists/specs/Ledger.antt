@@ -58,7 +58,7 @@ unfoldable pub writeSends : ℕ → Item → Book → ℕ → ℕ → ℕ → Bo
 writeSends j x w i c y =
     (eqb c 0x830 && reaches j x w i (icrItem y) (icrTarget y)) || (eqb c 0x83F && reaches j x w i (item.Vector y) Caller)
 
--- what an act on the vCPU i posts for x on j, with its admitted part and its result (7.1, 12.18 to 12.23)
+-- what an act on the vCPU i posts for x on j, with its admitted part and its result (7.1, 12.21 to 12.23, 13.27)
 unfoldable pub postAct : ℕ → Item → Part → Book → ℕ → Act Bytes → Result → Ledger → Ledger
 postAct j x s w i (notice p) a g = addAdmitted (inPart x s && eqb j i) g
 postAct j x s w i (call op c y) a g = addSent (accepted a && (eqb op 3 && writeSends j x w i c y)) g
@@ -67,7 +67,7 @@ postAct j x s w i (entry iF sh bl) a g =
 postAct j x s w i nonDelivery a g = addReturned (accepted a && isItem x (g .latest) && eqb j i) g
 postAct j x s w i (handBack p iF sh) a g = g
 
--- folded over a list with its results, at the VMPL l, under the book that the events before left (13.27)
+-- folded over a list with its results, at the VMPL l, under the book that the events before left (12.18 to 12.20, 13.27)
 unfoldable pub ledger : ℕ → Item → ℕ → Book → List Event → List Result → Ledger → Ledger
 ledger j x l w [] rs g = g
 ledger j x l w (e ∷ es) [] g = g
@@ -82,7 +82,7 @@ opened o = record { presented = 0; admitted = 0; sent = 0; returned = 0; latest 
 abbrev pub ledgerOf : Module → ℕ → Item → List Event → Ledger
 ledgerOf m j x es = ledger j x (m .vmpl) (bookOf m) es (results m es) (opened (itemInFlight (vcpuAt m j .flight)))
 
--- nothing is posted for a refused event, which admits nothing, or for a call that writes no register
+-- nothing is posted for a refused event, which admits nothing, or for a call that writes no register (12.20 to 12.23)
 pub record Quiet : Type 0 where
   pub refusals : (j : ℕ) (x : Item) (s : Part) (w : Book) (i : ℕ) (a : Act Bytes) (c : ℕ) (g : Ledger) → inPart x s ≡ false
       → postAct j x s w i a (refused c) g ≡ g

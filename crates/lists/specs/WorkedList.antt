@@ -1,19 +1,22 @@
--- A worked list (14.41): its results, its pages, its notices struck out and its tallies.
+-- Worked lists (14.41, 14.44, 14.45): their results, their pages, their notices struck out, their tallies and what they admit.
 -- Assumes nothing.
 use mathlib.Core.Path.{_≡_}
 use mathlib.Core.Bool.{Bool, true, false, _&&_}
-use mathlib.Core.List.{List, [], _∷_}
+use mathlib.Core.List.{List, [], _∷_, map}
 use Prim.Native.Nat.{ℕ}
 use lib.Dec.{eqb}
 use lib.ListN.{length, set}
+use Rattle.model.specs.declared.Item.{Item}
 use Rattle.model.specs.declared.Item.the-variants as item
 use Rattle.model.specs.State.{start}
 use Rattle.model.specs.Codes.{Answer, nothing, presents, window, Result, done, answers, refused}
 use Rattle.model.specs.Items.{isItem}
-use Rattle.model.specs.Events.{notice, call, nonDelivery, handBack, at, Event}
-use Rattle.model.specs.Cases.{sameNumbers, gives, isRefused, isIdle, zeros, byte64, every}
+use Rattle.model.specs.Doorbell.{items}
+use Rattle.model.specs.Events.{notice, call, entry, nonDelivery, handBack, at, Event}
+use Rattle.model.specs.Cases.{sameNumbers, gives, isRefused, isIdle, zeros, announcing, byte64, every}
 use Rattle.model.specs.Worked.{eoi, icr, isShown, isWindow, answersBy, enters}
-use Rattle.lists.specs.Lists.{results, pages, struck, Alike}
+use Rattle.lists.specs.Book.{bookOf, parts}
+use Rattle.lists.specs.Lists.{results, pages, struck, AllAlike}
 use Rattle.lists.specs.Ledger.{Ledger, ledgerOf}
 
 -- the list, on one vCPU
@@ -77,8 +80,59 @@ listed =
     ∷ isItem (item.Vector 0x41) (tallies .latest)
     ∷ []
 
+-- ---- a list on two vCPUs (14.44)
+abbrev entered : Event
+entered = at 1 (entry true false false)
+
+-- vCPU 1 sends 0x41 to all
+abbrev toAll : Event
+toAll = at 1 (call 3 0x830 0x84041)
+
+abbrev pair : List Event
+pair =
+    at 0 (call 4 0x102 0)
+    ∷ at 0 (notice (set announcing 65 0x01))
+    ∷ icr 0xC4400
+    ∷ entered
+    ∷ at 1 nonDelivery
+    ∷ entered
+    ∷ toAll
+    ∷ at 0 (call 1 1 0)
+    ∷ toAll
+    ∷ at 0 (handBack zeros true false)
+    ∷ at 1 (call 1 0 0)
+    ∷ at 1 (handBack zeros false true)
+    ∷ []
+
+abbrev shownNmi : Result
+shownNmi = answers (presents item.Nmi)
+
+-- its tallies of x on j: presented, admitted, sent, returned
+abbrev tells : ℕ → Item → List ℕ → Bool
+tells j x ns =
+    let g = ledgerOf (start 2 1) j x pair in sameNumbers (g .presented ∷ g .admitted ∷ g .sent ∷ g .returned ∷ []) ns
+
+unfoldable pub paired : List Bool
+paired =
+    sameResults (results (start 2 1) pair)
+    (done 0 ∷ done 1 ∷ done 2 ∷ shownNmi ∷ done 0 ∷ shownNmi ∷ done 3 ∷ done 0 ∷ done 2 ∷ done 65537 ∷ done 0 ∷ done 65538 ∷ [])
+    ∷ samePages (pages (start 2 1) pair) (set (set zeros 65 0x41) 72 0x02 ∷ set (set zeros 65 0x40) 72 0x02 ∷ [])
+    ∷ tells 0 item.Nmi (0 ∷ 1 ∷ 0 ∷ 0 ∷ [])
+    ∷ tells 1 item.Nmi (2 ∷ 0 ∷ 1 ∷ 1 ∷ [])
+    ∷ tells 0 (item.Vector 0x41) (0 ∷ 0 ∷ 1 ∷ 0 ∷ [])
+    ∷ tells 1 (item.Vector 0x41) (0 ∷ 0 ∷ 2 ∷ 0 ∷ [])
+    ∷ tells 0 (item.Vector 0x42) (0 ∷ 0 ∷ 0 ∷ 0 ∷ [])
+    ∷ tells 1 (item.Vector 0x42) (0 ∷ 0 ∷ 0 ∷ 0 ∷ [])
+    ∷ []
+
+-- ---- a notice of 0x41 before and after it is allowed (14.45): how many items each event admits by the book
+unfoldable pub judged : List ℕ
+judged = map items (parts 1 (bookOf (start 1 1)) (at 0 (notice byte64) ∷ at 0 (call 4 0x141 0) ∷ at 0 (notice byte64) ∷ []))
+
 -- ---- all of it
 pub record WorkedList : Type 0 where
   pub listed : every listed ≡ true
-  -- two notices that differ in a byte are alike
-  pub different : Alike (at 0 (notice byte64)) (at 0 (notice zeros))
+  pub paired : every paired ≡ true
+  pub judged : sameNumbers judged (0 ∷ 0 ∷ 1 ∷ []) ≡ true
+  -- two lists that differ in bytes of two notices, on two vCPUs and one of them short, are alike
+  pub different : AllAlike (at 0 (notice byte64) ∷ eoi ∷ at 1 (notice (1 ∷ [])) ∷ []) (at 0 (notice zeros) ∷ eoi ∷ at 1 (notice (0 ∷ [])) ∷ [])

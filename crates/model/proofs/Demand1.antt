@@ -26,7 +26,8 @@ use Rattle.model.specs.Ipi.{icrLegal}
 use Rattle.model.specs.Requests.{bad, registration, readBy, writeBy, writeValue, nameable, permission, requestOf, forget, serve, callVerdict}
 use Rattle.model.specs.Events.{Act, notice, call, entry, nonDelivery, handBack, at, Bytes, Event, pageOf, vcpuVerdict, verdict}
 use Rattle.model.specs.Events.{callEffect, effect, effectOf, concluded, Out, step, next, startResult, doStart}
-use Rattle.model.specs.Causes.{cause, firstCause, inTable, badValue, badEcx, isKindNone, isKindRead, isKindWrite, callCauses, causes, startCauses}
+use Rattle.model.specs.Causes.{cause, firstCause, hasVcpu, inTable, badValue, badEcx, isKindNone, isKindRead, isKindWrite}
+use Rattle.model.specs.Causes.{callCauses, causes, startCauses}
 use Rattle.model.specs.Demand1.{Demand1}
 use Rattle.vector_set.specs.Bits.{bitAt}
 use Rattle.vector_set.proofs.Laws.{clash}
@@ -163,20 +164,37 @@ module _ (j : ℕ) (u : Vcpu) where
       rw (at 0 (omega arith), at 1 (omega arith), at 2 (omega arith), at 3 (omega arith), at 4 (omega arith), lt-ltb 4 d (omega arith))
 
 -- ---- the verdict has the code of the first cause
+-- by n and L the module has the vCPUs below its size
+has-size : (m : Module) (i : ℕ) → hasVcpu m i ≡ ltb i (size m)
+unfolding size
+has-size m i = pick (leb (m .n) 32) (leb 1 (m .vmpl)) (leb (m .vmpl) 3)
+  where
+    none-below : false ≡ ltb i 0
+    none-below = sym (le-ltb i 0 (omega arith))
+
+    pick : (a b c : Bool) → (a && (b && c) && ltb i (m .n)) ≡ ltb i (cond (a && b && c) (m .n) 0)
+    pick true true true = refl
+    pick true true false = none-below
+    pick true false c = none-below
+    pick false b c = none-below
+
 verdict-causes : (m : Module) (i : ℕ) (a : Act Bytes) → refusalIn (verdict m (at i a)) ≡ firstCause (causes m (at i a))
 unfolding verdict vcpuVerdict causes firstCause
 verdict-causes m i (notice p) =
-    rw (ltb-leb (length p) 256)
+    rw (has-size m i, ltb-leb (length p) 256)
     (needs (ltb i (size m)) UnknownVcpu _ _ (needs (isActive (vcpuAt m i .phase)) NotActive _ _ (needs (leb 256 (length p)) ShortPage accept none refl)))
 verdict-causes m i (call op c x) =
-    needs (ltb i (size m)) UnknownVcpu _ _
-    (needs (isActive (vcpuAt m i .phase)) NotActive _ _ (numbers i (forget (vcpuAt m i)) (m .registrations) op c x))
-verdict-causes m i (entry iF sh bl) = needs (ltb i (size m)) UnknownVcpu _ _ (needs (isActive (vcpuAt m i .phase)) NotActive accept none refl)
+    rw (has-size m i)
+    (needs (ltb i (size m)) UnknownVcpu _ _
+    (needs (isActive (vcpuAt m i .phase)) NotActive _ _ (numbers i (forget (vcpuAt m i)) (m .registrations) op c x)))
+verdict-causes m i (entry iF sh bl) =
+    rw (has-size m i) (needs (ltb i (size m)) UnknownVcpu _ _ (needs (isActive (vcpuAt m i .phase)) NotActive accept none refl))
 verdict-causes m i nonDelivery =
-    needs (ltb i (size m)) UnknownVcpu _ _
-    (needs (isActive (vcpuAt m i .phase)) NotActive _ _ (needs (isInFlight (vcpuAt m i .flight)) NothingInFlight accept none refl))
+    rw (has-size m i)
+    (needs (ltb i (size m)) UnknownVcpu _ _
+    (needs (isActive (vcpuAt m i .phase)) NotActive _ _ (needs (isInFlight (vcpuAt m i .flight)) NothingInFlight accept none refl)))
 verdict-causes m i (handBack p iF sh) =
-    rw (ltb-leb (length p) 256)
+    rw (has-size m i, ltb-leb (length p) 256)
     (needs (ltb i (size m)) UnknownVcpu _ _ (needs (isLeaving (vcpuAt m i .phase)) NotLeaving _ _ (needs (leb 256 (length p)) ShortPage accept none refl)))
 
 -- ---- an accepted event refuses nothing
@@ -251,7 +269,7 @@ named (refused d) c e = cc
 
 first-none : (m : Module) (e : Event) → size m ≡ 0 → firstCause (causes m e) ≡ some 1
 unfolding causes firstCause
-first-none m e z = rw (z, le-ltb (e .vcpu) 0 (omega arith))
+first-none m e z = rw (has-size m (e .vcpu), z, le-ltb (e .vcpu) 0 (omega arith))
 
 code-1 : (m : Module) (e : Event) → size m ≡ 0 → step m e .result ≡ refused 1
 code-1 m e z = named (step m e .result) 1 (refusals m e ∙ first-none m e z)

@@ -10,7 +10,7 @@ use lib.ListN.{length}
 use Rattle.model.specs.declared.Kind.{Kind}
 use Rattle.model.specs.declared.Kind.the-variants as kind
 use Rattle.model.specs.declared.Module.{Module}
-use Rattle.model.specs.State.{isActive, isLeaving, isInFlight, size, vcpuAt}
+use Rattle.model.specs.State.{isActive, isLeaving, isInFlight, vcpuAt}
 use Rattle.vector_set.specs.Sets.{isVector}
 use Rattle.model.specs.Registers.{within, kindOf}
 use Rattle.model.specs.Ipi.{icrLegal}
@@ -114,10 +114,14 @@ numberCauses k nonDelivery = []
 numberCauses k (handBack p iF sh) = []
 
 -- ---- all of them, in order
+-- the module has a vCPU of that number: n is at most 32, L is 1 to 3, and the number is below n (2.15, 11.1)
+abbrev pub hasVcpu : Module → ℕ → Bool
+hasVcpu m i = leb (m .n) 32 && within 1 3 (m .vmpl) && ltb i (m .n)
+
 -- of an event on a module value (11.1 to 11.4, 11.6, 11.12)
 unfoldable pub causes : Module → Event → List Cause
 causes m e =
-    cause 1 (not (ltb (e .vcpu) (size m)))
+    cause 1 (not (hasVcpu m (e .vcpu)))
     ∷ cause 0x80000001 (not (isHandBack (e .act)) && not (isActive (vcpuAt m (e .vcpu) .phase)))
     ∷ cause 3 (isHandBack (e .act) && not (isLeaving (vcpuAt m (e .vcpu) .phase)))
     ∷ cause 2 (short (lends (e .act)))

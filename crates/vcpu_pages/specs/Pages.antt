@@ -15,7 +15,7 @@ use Rattle.model.specs.Codes.{codeOf, Verdict, accept, refuse, need, Result, do
 abbrev pub pageVerdict : Bool → Refusal → List ℕ → Verdict
 pageVerdict right c p = need right c (need (longEnough p) ShortPage accept)
 
--- of a notice and of a hand-back, to a vCPU in the phase s
+-- of a notice and of a hand-back, to a vCPU in the phase s (4.2, 10.2)
 abbrev pub noticeVerdict : Phase → List ℕ → Verdict
 noticeVerdict s p = pageVerdict (isActive s) NotActive p
 
@@ -34,7 +34,7 @@ unfoldable pub takeOn : Verdict → Part → TakenOut
 takeOn (refuse c) a = refusedNotice c
 takeOn accept a = record { result = done (items a); part = a }
 
--- what taking a notice gave, in these terms
+-- what taking a notice gave, in these terms (13.9)
 abbrev pub takenOut : NoticeTaken → TakenOut
 takenOut r = record { result = resultOf (r .outcome); part = partOf (r .part) }
 

@@ -1,6 +1,6 @@
 -- A posting makes its item pending. Assumes nothing.
 use mathlib.Core.Path.{_≡_, sym, ap, _∙_}
-use mathlib.Core.Bool.{Bool, true, false, cond, _||_}
+use mathlib.Core.Bool.{Bool, true, false, cond}
 use mathlib.Core.List.{List}
 use Prim.Native.Nat.{ℕ, _/_, _%_, _<_}
 use native.Mathlib.Omega.{arith}
@@ -16,7 +16,7 @@ use Rattle.vector_set.proofs.WordLaws.{one-shl, insert-word}
 use Rattle.model.specs.declared.Item.{Item}
 use Rattle.model.specs.declared.Item.the-variants.{Nmi, Vector}
 use Rattle.model.specs.declared.Vcpu.{Vcpu}
-use Rattle.model.specs.State.{withIrr, withNmi}
+use Rattle.model.specs.State.{withIrr}
 use Rattle.model.specs.Items.{mark}
 use Rattle.model.specs.Ipi.{icrType, icrVector, icrItem}
 use Rattle.model.proofs.Item as I

@@ -81,8 +81,8 @@ listed =
     ∷ []
 
 -- ---- a list on two vCPUs (14.44)
-abbrev entered : Event
-entered = at 1 (entry true false false)
+abbrev enters1 : Event
+enters1 = at 1 (entry true false false)
 
 -- vCPU 1 sends 0x41 to all
 abbrev toAll : Event
@@ -93,9 +93,9 @@ pair =
     at 0 (call 4 0x102 0)
     ∷ at 0 (notice (set announcing 65 0x01))
     ∷ icr 0xC4400
-    ∷ entered
+    ∷ enters1
     ∷ at 1 nonDelivery
-    ∷ entered
+    ∷ enters1
     ∷ toAll
     ∷ at 0 (call 1 1 0)
     ∷ toAll

@@ -18,7 +18,7 @@ abbrev pub InRange : Item → Type 0
 InRange Nmi = Unit {0}
 InRange (Vector v) = v < 256
 
--- a vector is at least 31
+-- a vector is at least 31 (4.13, 7.9)
 abbrev pub IsVector : Item → Type 0
 IsVector Nmi = Unit {0}
 IsVector (Vector v) = 31 ≤ v

@@ -1,7 +1,7 @@
 -- Further worked cases (14.21 to 14.40, 14.42, 14.43), for what no claim says otherwise, and all cases of single events in one proposition.
 -- Assumes nothing.
 use mathlib.Core.Path.{_≡_}
-use mathlib.Core.Bool.{Bool, true, false, not, _&&_}
+use mathlib.Core.Bool.{Bool, true, false, not}
 use mathlib.Core.List.{List, [], _∷_}
 use Prim.Native.Nat.{ℕ, zero, suc, _+_}
 use lib.Dec.{eqb}
@@ -21,8 +21,8 @@ use Rattle.model.specs.Causes.{isKindNone, isKindRead, isKindWrite}
 use Rattle.model.specs.declared.Kind.{Kind}
 use Rattle.vector_set.specs.Bits.{one}
 use Rattle.model.specs.Events.{notice, call, entry, nonDelivery, handBack, at, Event, Out, step, next}
-use Rattle.model.specs.Cases.{sameNumbers, gives, isRefused, isIdle, isNothing, fresh2, having, record0, singleton, zeros}
-use Rattle.model.specs.Cases.{announcing, byte64, onPage, resultOn, level61, pending41, every, Starred}
+use Rattle.model.specs.Cases.{sameNumbers, gives, isRefused, isNothing, fresh2, having, record0, singleton}
+use Rattle.model.specs.Cases.{announcing, onPage, resultOn, level61, pending41, every, Starred}
 
 -- ---- what the cases use
 -- n bytes b from byte i on

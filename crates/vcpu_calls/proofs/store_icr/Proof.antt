@@ -1,7 +1,6 @@
 -- `vcpu_calls::store_icr` meets its contract: the record with nothing in flight and the ICR stored. Assumes nothing.
 use mathlib.Core.Path.{ap}
 use borrow.Author.Needs.{needs}
-use Rattle.model.specs.declared.Outcome.the-variants as outcome
 use Rattle.model.specs.declared.Vcpu.{Vcpu}
 use Rattle.model.specs.State.{withIcr}
 use Rattle.model.specs.Events.{callEffect}

@@ -15,16 +15,15 @@ const FIXED: u64 = 0;
 const NMI: u64 = 4;
 const EVERYONE: u64 = 0xFFFF_FFFF;
 
-/// 7.11
+/// 7.11. Bits 14 and 15 are not looked at (7.5).
 pub fn legal(value: u64) -> bool {
     let kind = field(value, 10, 8);
     let shorthand = field(value, 19, 18);
     let vector = field(value, 7, 0);
-    let mut zero = vec![12, 13, 15, 16, 17];
-    zero.extend(20..=31);
+    let mut reserved = vec![12, 13, 16, 17];
+    reserved.extend(20..=31);
 
-    bit(value, 14)
-        && zero.iter().all(|&number| !bit(value, number))
+    reserved.iter().all(|&number| !bit(value, number))
         && (kind == FIXED || kind == NMI)
         && (kind != FIXED || vector >= 31)
         && (kind != NMI || (shorthand != 1 && shorthand != 2))

@@ -71,7 +71,7 @@ fn written_values_are_whole() {
     assert_eq!(write(&mut m, 0, 0x83F, 255), Ok(1));
 }
 
-/// 7.3, 7.5, 7.8 to 7.11: each broken once.
+/// 7.3, 7.8 to 7.11: each broken once, with bits 14 and 15 in each way (7.5).
 #[test]
 fn icr_rules() {
     let refused = |value: u64| {
@@ -79,10 +79,11 @@ fn icr_rules() {
         assert_eq!(write(&mut m, 0, 0x830, value), Err(BAD_VALUE), "{value:#x}");
         assert_eq!(m, fresh(2, 1));
     };
-    for bit in [12, 13, 15, 16, 17].into_iter().chain(20..=31) {
-        refused(0x4041 + (1 << bit));
+    for bits in BITS_14_AND_15 {
+        for bit in [12, 13, 16, 17].into_iter().chain(20..=31) {
+            refused(0x41 + bits + (1 << bit));
+        }
     }
-    refused(0x0041);
     for kind in [1, 2, 3, 5, 6, 7] {
         refused(0x4041 + kind * 0x100);
     }
@@ -101,7 +102,13 @@ fn icr_rules() {
         0x0004_4041,
         0x0008_4041,
     ] {
-        assert!(write(&mut fresh(2, 1), 0, 0x830, good).is_ok(), "{good:#x}");
+        for bits in BITS_14_AND_15 {
+            let value = good - 0x4000 + bits;
+            assert!(
+                write(&mut fresh(2, 1), 0, 0x830, value).is_ok(),
+                "{value:#x}"
+            );
+        }
     }
 }
 

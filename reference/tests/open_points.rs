@@ -308,6 +308,54 @@ fn shorthands_and_nmi_vectors() {
     assert!(m.records[17].nmi);
 }
 
+/// 7.5, 13.36: for both types, every shorthand and both modes; the module is the same but for the ICR.
+#[test]
+fn icr_bits_14_and_15_change_nothing_in_delivery() {
+    for low in [
+        0x41, 0x841, 0x400, 0xC00, 0x4_0041, 0x8_0041, 0xC_0041, 0xC_0400,
+    ] {
+        for destination in [0, 1, 0x10, 0x1_0003, 0xFFFF_FFFF] {
+            let sent = |bits: u64| {
+                let value = destination * 0x1_0000_0000 + bits + low;
+                let mut m = fresh(18, 1);
+                m.records[1].phase = Phase::Leaving;
+                let answer = write(&mut m, 0, 0x830, value);
+                assert!(answer.is_ok(), "{value:#x}");
+                assert_eq!(m.records[0].icr, value);
+                m.records[0].icr = 0;
+                (answer, m)
+            };
+            for bits in BITS_14_AND_15 {
+                assert_eq!(sent(bits), sent(0x4000), "{low:#x} {destination:#x}");
+            }
+        }
+    }
+}
+
+/// 7.24: a vector joins the level-sensitive part of the IRR by no such bit, and leaves it by none.
+#[test]
+fn icr_bits_14_and_15_and_the_level_sensitive_part() {
+    for bits in BITS_14_AND_15 {
+        let mut m = fresh(1, 1);
+        assert_eq!(write(&mut m, 0, 0x830, 0x4_0041 + bits), Ok(1));
+        assert_eq!(m.records[0].pending, set(&[0x41]));
+        assert!(m.records[0].pending_level.is_empty());
+        m.records[0].pending_level = set(&[0x41]);
+        assert_eq!(write(&mut m, 0, 0x830, 0x4_0041 + bits), Ok(1));
+        assert_eq!(m.records[0].pending_level, set(&[0x41]));
+    }
+}
+
+/// 6.23: the self-IPI register takes a vector and no such bit.
+#[test]
+fn the_self_ipi_register_has_no_bits_14_and_15() {
+    let mut m = fresh(1, 1);
+    for bits in [0x4000, 0x8000, 0xC000] {
+        assert_eq!(write(&mut m, 0, 0x83F, 0x41 + bits), Err(BAD_VALUE));
+    }
+    assert_eq!(m, fresh(1, 1));
+}
+
 /// 7.13 to 7.15, 7.19, 7.21
 #[test]
 fn destinations() {

@@ -1,4 +1,4 @@
-//! The cases worked here (14.21 to 14.44), on an implementation that was written apart from the definitions.
+//! The cases worked here (14.21 to 14.44, 14.46 to 14.49), on an implementation that was written apart from the definitions.
 
 mod common;
 
@@ -112,18 +112,24 @@ fn registers_and_eois() {
 #[test]
 fn values_that_the_icr_does_not_take() {
     for value in [
-        0x0041,
         0x5041,
         0x6041,
-        0xC041,
         0x14041,
         0x24041,
         0x104041,
         0x8000_4041,
         0x4141,
+        0x4241,
+        0x4341,
+        0x4541,
+        0x4641,
+        0x4741,
         0x401E,
+        0x20_0000_401E,
         0x44400,
+        0x44441,
         0x84400,
+        0x84441,
     ] {
         assert_eq!(
             write(&mut fresh(2, 1), 0, ICR, value),
@@ -133,7 +139,7 @@ fn values_that_the_icr_does_not_take() {
     }
 }
 
-/// 14.29, 14.30
+/// 14.29, 14.30; of 14.48 what is on 18 vCPUs
 #[test]
 fn whom_an_ipi_reaches() {
     for (value, mask) in [
@@ -146,12 +152,58 @@ fn whom_an_ipi_reaches() {
         (0x0000_0006_0000_4841, 6),
         (0x0000_0005_0000_4041, 0x20),
         (0x0000_0012_0000_4041, 0),
+        (0x0000_0020_0000_4041, 0),
+        (0x0000_00FF_0000_4041, 0),
     ] {
         assert_eq!(
             write(&mut fresh(18, 1), 0, ICR, value),
             Ok(mask),
             "{value:#x}"
         );
+    }
+}
+
+/// 14.46
+#[test]
+fn bits_14_and_15_of_the_icr() {
+    for bits in BITS_14_AND_15 {
+        for (low, shown) in [
+            (0x41, presented(0x41)),
+            (0x400, Shown::Presented(Item::Nmi)),
+        ] {
+            let mut m = fresh(2, 1);
+            let value = 0x1_0000_0000 + low + bits;
+            assert_eq!(write(&mut m, 0, ICR, value), Ok(2), "{value:#x}");
+            assert_eq!(entry(&mut m, 1, true, false, false), Ok(shown));
+            assert_eq!(read(&mut m, 0, ICR), Ok(value));
+        }
+    }
+}
+
+/// 14.47
+#[test]
+fn bit_15_of_the_icr_is_no_level() {
+    let mut m = fresh(2, 1);
+    assert_eq!(write(&mut m, 0, ICR, 0x48041), Ok(1));
+    assert_eq!(read(&mut m, 0, 0x822), Ok(2));
+    assert_eq!(read(&mut m, 0, 0x81A), Ok(0));
+    assert_eq!(entry(&mut m, 0, true, false, false), Ok(presented(0x41)));
+    assert_eq!(write(&mut m, 0, EOI, 0), Ok(0));
+}
+
+/// 14.48
+#[test]
+fn ipis_by_other_vectors_modes_and_callers() {
+    for (caller, value, shown) in [
+        (1, 0xFFFF_FFFF_0004_48FF, presented(0xFF)),
+        (0, 0x1_0000_401F, presented(0x1F)),
+        (0, 0x2_0000_0C1E, Shown::Presented(Item::Nmi)),
+        (0, 0xC_4041, presented(0x41)),
+    ] {
+        let mut m = fresh(2, 1);
+        assert_eq!(write(&mut m, caller, ICR, value), Ok(2), "{value:#x}");
+        assert_eq!(entry(&mut m, 1, true, false, false), Ok(shown));
+        assert_eq!(read(&mut m, caller, ICR), Ok(value));
     }
 }
 
@@ -211,7 +263,7 @@ fn what_holds_an_item_back() {
     );
 }
 
-/// 14.42, 14.43
+/// 14.42, 14.43, 14.49
 #[test]
 fn what_an_entry_leaves() {
     let mut m = fresh(2, 1);
@@ -222,6 +274,9 @@ fn what_an_entry_leaves() {
     for (register, value) in [(0x822, 0), (0x812, 2)] {
         assert_eq!(read(&mut looked, 0, register), Ok(value));
     }
+    let mut sent = m.clone();
+    assert_eq!(write(&mut sent, 0, ICR, 0x1_0000_4041), Ok(2));
+    assert_eq!(non_delivery(&mut sent, 0), Err(NOTHING_IN_FLIGHT));
     assert_eq!(entry(&mut m, 0, true, false, false), Ok(Shown::Nothing));
     assert_eq!(non_delivery(&mut m, 0), Err(NOTHING_IN_FLIGHT));
 }
@@ -277,7 +332,7 @@ fn a_worked_list() {
     assert_eq!(non_delivery(&mut m, 0), Ok(0));
     assert_eq!(entry(&mut m, 0, true, false, false), shown);
     assert_eq!(write(&mut m, 0, SELF_IPI, 0x41), Ok(1));
-    assert_eq!(write(&mut m, 0, ICR, 0x0041), Err(BAD_VALUE));
+    assert_eq!(write(&mut m, 0, ICR, 0x1041), Err(BAD_VALUE));
     assert_eq!(write(&mut m, 0, EOI, 0), Ok(0));
     assert_eq!(entry(&mut m, 0, true, false, false), shown);
     assert_eq!(notice(&mut m, 0, &mut []), Err(SHORT_PAGE));

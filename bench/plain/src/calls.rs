@@ -13,9 +13,8 @@ const IRR: u32 = 0x820;
 const ICR: u32 = 0x830;
 const SELF_IPI: u32 = 0x83F;
 
-/// Bits 12, 13, 15, 16, 17 and 31:20 are 0, and bit 14 is 1 (7.5, 7.8).
-const ICR_FIXED: u64 = 0xFFF3_F000;
-const ICR_BIT_14: u64 = 0x4000;
+/// Bits 12, 13, 16, 17 and 31:20 (7.8).
+const ICR_RESERVED: u64 = 0xFFF3_3000;
 
 const BAD: Outcome = Outcome::Refused(Refusal::BadParameter);
 
@@ -133,9 +132,9 @@ fn end(v: &mut Vcpu) -> u64 {
     u64::from(vector)
 }
 
-/// Is the value of type NMI? None for a value that is not legal (7.3, 7.5, 7.8 to 7.11).
+/// Is the value of type NMI? None for a value that is not legal (7.3, 7.8 to 7.11).
 fn type_of(value: u64) -> Option<bool> {
-    if value & ICR_FIXED != ICR_BIT_14 {
+    if value & ICR_RESERVED != 0 {
         return None;
     }
     match value >> 8 & 7 {

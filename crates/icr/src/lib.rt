@@ -1,6 +1,6 @@
 // The ICR: which values may be written, what they send and to whom.
 ghost use mathlib.Core.Path.{_≡_};
-ghost use Rattle.model.specs.Ipi.{icrType, icrShorthand, icrFixedBits, icrIsFixed, icrIsNmi, icrLegal, icrItem, icrTarget};
+ghost use Rattle.model.specs.Ipi.{icrType, icrShorthand, icrReservedClear, icrIsFixed, icrIsNmi, icrLegal, icrItem, icrTarget};
 use model::Item;
 use model::Target;
 
@@ -12,11 +12,6 @@ const LOGICAL_BIT: u64 = 11;
 const SHORTHAND_BIT: u64 = 18;
 
 const DESTINATION_BIT: u64 = 32;
-
-// The bits for assertion and for the trigger mode, which are 1 and 0 (7.5).
-const ASSERT_BIT: u64 = 14;
-
-const TRIGGER_BIT: u64 = 15;
 
 // The types (7.3).
 const FIXED: u64 = 0;
@@ -45,15 +40,11 @@ fn shorthand_of(value: u64) -> u64
     (value >> SHORTHAND_BIT) % 4
 }
 
-// The bits that have one value only; 12 and 13, 16 and 17, 20 to 31 are 0 (7.5, 7.8).
-fn has_fixed_bits(value: u64) -> bool
-    ensures { λ r. ⌜ r ≡ icrFixedBits value ⌝ }
+// Bits 12 and 13, 16 and 17, 20 to 31 are 0 (7.8). Bits 14 and 15, assert and trigger mode, may be either (7.5).
+fn reserved_clear(value: u64) -> bool
+    ensures { λ r. ⌜ r ≡ icrReservedClear value ⌝ }
 {
-    (value >> ASSERT_BIT) % 2 == 1
-        && (value >> TRIGGER_BIT) % 2 != 1
-        && (value >> 12) % 4 == 0
-        && (value >> 16) % 4 == 0
-        && (value >> 20) % 4096 == 0
+    (value >> 12) % 4 == 0 && (value >> 16) % 4 == 0 && (value >> 20) % 4096 == 0
 }
 
 // Type Fixed, with a vector that may be sent (7.3, 7.9).
@@ -75,7 +66,7 @@ fn is_nmi(value: u64) -> bool
 pub fn is_legal(value: u64) -> bool
     ensures { λ r. ⌜ r ≡ icrLegal value ⌝ }
 {
-    has_fixed_bits(value) && (is_fixed(value) || is_nmi(value))
+    reserved_clear(value) && (is_fixed(value) || is_nmi(value))
 }
 
 // What a legal value sends (7.2, 7.3).

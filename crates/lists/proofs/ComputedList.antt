@@ -17,11 +17,11 @@ use Rattle.lists.specs.Book.{addsOne, registers, permits, called, leaves
 use Rattle.lists.specs.Lists.{results, handBackPages, pages, struck, same, notices, neither, both}
 use Rattle.lists.specs.Ledger.{writeSends, postAct, ledger}
 use Rattle.lists.specs.WorkedList.{listed, paired, judged, WorkedList}
-use Rattle.model.specs.Ipi.{icrFixedBits, icrIsFixed, icrIsNmi, icrLegal, icrItem, icrTarget, hits, reach, mapFrom, sent, reachedBits}
+use Rattle.model.specs.Ipi.{icrReservedClear, icrIsFixed, icrIsNmi, icrLegal, icrItem, icrTarget, hits, reach, mapFrom, sent, reachedBits}
 
 pub worked-list : WorkedList
 unfolding listed paired judged parts bookOf recordAt withRecord withCount leavesAtZero takesOne addsOne registers permits called leaves feedAct
-    partOn results handBackPages pages struck writeSends postAct ledger run giveBack undelivered icrFixedBits icrIsFixed icrIsNmi icrLegal icrItem
+    partOn results handBackPages pages struck writeSends postAct ledger run giveBack undelivered icrReservedClear icrIsFixed icrIsNmi icrLegal icrItem
     icrTarget hits reach mapFrom sent reachedBits bits has words collect empty full insert remove union difference highestBelow highest countBelow
     count isEmpty wordOf bare size vcpuAt started start stopped withVcpu withRegistrations mark unmark markAll unmarkAll bitOf bytesFrom mapBits
     announces descriptor noPart admitsNmi admitsLevel admitsEdge admits admitted items clearsBit clears noticedPage handedBit servingBit handedBytes

@@ -28,7 +28,7 @@ story =
     ∷ at 0 nonDelivery
     ∷ enters true false false
     ∷ at 0 (call 3 0x83F 0x41)
-    ∷ icr 0x0041
+    ∷ icr 0x1041
     ∷ eoi
     ∷ enters true false false
     ∷ at 0 (notice [])

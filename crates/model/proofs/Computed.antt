@@ -14,10 +14,10 @@ use Rattle.model.specs.Events.{noticed, offerHighest, offer, present, en
 use Rattle.model.specs.Events.{vcpuVerdict, verdict, callEffect, effect, concluded, step, giveBack, undelivered}
 use Rattle.model.specs.Cases.{cases, Starred}
 use Rattle.model.specs.Worked.{further, Worked}
-use Rattle.model.specs.Ipi.{icrFixedBits, icrIsFixed, icrIsNmi, icrLegal, icrItem, icrTarget, hits, reach, mapFrom, sent, reachedBits}
+use Rattle.model.specs.Ipi.{icrReservedClear, icrIsFixed, icrIsNmi, icrLegal, icrItem, icrTarget, hits, reach, mapFrom, sent, reachedBits}
 
 pub worked : Worked
-unfolding Starred cases further giveBack undelivered icrFixedBits icrIsFixed icrIsNmi icrLegal icrItem
+unfolding Starred cases further giveBack undelivered icrReservedClear icrIsFixed icrIsNmi icrLegal icrItem
     icrTarget hits reach mapFrom sent reachedBits bits has words collect empty full insert remove union difference highestBelow highest countBelow
     count isEmpty wordOf bare size vcpuAt started start stopped withVcpu withRegistrations mark unmark markAll unmarkAll bitOf bytesFrom mapBits
     announces descriptor noPart admitsNmi admitsLevel admitsEdge admits admitted items clearsBit clears noticedPage handedBit servingBit handedBytes

@@ -19,7 +19,9 @@ use Rattle.vector_set.proofs.Laws.{clash}
 use Rattle.model.proofs.Stored.{needed}
 use Rattle.model.proofs.Reached.{AllSound, all-reached}
 use Rattle.model.proofs.ReadBack.{read-back}
-use Rattle.model.proofs.Kept.{keeps-level, keeps-inactive}
+use Rattle.model.proofs.Kept.{keeps-level, calls-keep-level, keeps-inactive}
+use Rattle.model.proofs.IcrBits.{reserved, set-apart, same-delivery}
+use Rattle.model.proofs.IcrWrites.{same-write, icr-reads}
 
 -- ---- what acceptance tells
 -- a vCPU is below n only where L is 1 to 3
@@ -60,5 +62,11 @@ demand2 =
       reached = all-reached;
       readBack = λ n l es. reads-back (final (start n l) es) (all-reached n l es);
       keepsLevel = keeps-level;
+      callsKeepLevel = calls-keep-level;
       keepsInactive = keeps-inactive;
+      reserved = reserved;
+      setApart = set-apart;
+      sameDelivery = same-delivery;
+      sameWrite = same-write;
+      icrReads = icr-reads;
     }

@@ -12,7 +12,7 @@ use Rattle.model.specs.declared.Local.the-variants as local
 use Rattle.model.specs.declared.Request.{Request}
 use Rattle.model.specs.declared.Request.the-variants as request
 use Rattle.model.specs.Registers.{kindOf}
-use Rattle.model.specs.Ipi.{icrVector, icrType, icrShorthand, icrIsFixed, icrIsNmi, icrFixedBits, icrLegal, icrItem}
+use Rattle.model.specs.Ipi.{icrVector, icrType, icrShorthand, icrIsFixed, icrIsNmi, icrReservedClear, icrLegal, icrItem}
 use Rattle.model.specs.Requests.{registration, readBy, writeValue, writeBy, mayName, nameable, permission, requestOf}
 use Rattle.model.specs.Items.{IsVector}
 use Rattle.vector_set.specs.Bits.{bitAt}
@@ -46,7 +46,7 @@ either false r s p q = q
 fitting-icr : (x : ℕ) → icrLegal x ≡ true → IsVector (icrItem x)
 unfolding icrLegal icrItem icrIsFixed icrIsNmi
 fitting-icr x e =
-    pick (icrFixedBits x) (eqb (icrType x) 0) (isVector (icrVector x)) (eqb (icrType x) 4)
+    pick (icrReservedClear x) (eqb (icrType x) 0) (isVector (icrVector x)) (eqb (icrType x) 4)
     (not (eqb (icrShorthand x) 1 || eqb (icrShorthand x) 2)) refl e
   where
     pick : (f z v n t : Bool) → isVector (icrVector x) ≡ v → (f && ((z && v) || (n && t))) ≡ true → IsVector (cond n item.Nmi (item.Vector (icrVector x)))

@@ -21,7 +21,7 @@ use Rattle.model.specs.Registers.{endedAt, ended}
 use Rattle.model.specs.Ipi.{icrItem, icrTarget, hits, reach}
 use Rattle.model.specs.Items.{mark}
 use Rattle.model.specs.Requests.{requestOf, forget, leaveIf, serve}
-use Rattle.model.specs.Events.{Act, notice, call, entry, nonDelivery, handBack, Bytes, Event, noticed, Reply, gives}
+use Rattle.model.specs.Events.{Act, notice, call, entry, nonDelivery, handBack, at, Bytes, Event, noticed, Reply, gives}
 use Rattle.model.specs.Events.{sends, callEffect, effect, effectOf, store, deliver, concluded, next}
 use Rattle.model.specs.Causes.{isHandBack}
 use Rattle.model.specs.Demand2.{isRequest}
@@ -65,6 +65,24 @@ level-call (request.Local o) i k v = level-serve o i k (forget v)
 level-call (request.Icr x) i k v = refl
 level-call (request.Refused c) i k v = refl
 
+level-delivered : (r : Reply) (i : ℕ) (m : Module) (j : ℕ) → vcpuAt (deliver r i m) j .«irr_level» ≡ vcpuAt m j .«irr_level»
+level-delivered (gives r) i m j = refl
+level-delivered (sends y) i m j =
+    ap (λ (v : Vcpu). v .«irr_level») (vcpuAt-sent (icrItem y) (icrTarget y) i m j)
+    ∙ level-reach (icrItem y) (icrTarget y) i (size m) j (vcpuAt m j)
+
+-- ---- a guest call leaves PL as it is
+pub calls-keep-level : (m : Module) (i op c x j : ℕ) → vcpuAt (next m (at i (call op c x))) j .«irr_level» ≡ vcpuAt m j .«irr_level»
+unfolding concluded effect
+calls-keep-level m i op c x j =
+    let e = at i (call op c x) in
+    by-verdict m e (λ o. vcpuAt (o .after) j .«irr_level» ≡ vcpuAt m j .«irr_level») (λ r p. refl)
+    (λ p. level-delivered (effectOf m e .reply) i _ j
+    ∙ rw (vcpuAt-count)
+    (on-put m i (effectOf m e .vcpu) j (known-of m i (call op c x) p .there) (λ _ _ u v. v .«irr_level» ≡ u .«irr_level»)
+    (level-call (requestOf op c x) i (m .registrations) (vcpuAt m i)) refl))
+
+-- ---- and so does a notice, but for what it adds
 -- x stays in PL from the record u to v
 abbrev Stays : ℕ → Vcpu → Vcpu → Type 0
 Stays x u v = has (u .«irr_level») x ≡ true → has (v .«irr_level») x ≡ true
@@ -82,10 +100,7 @@ stays-effect x b l i k v nonDelivery q = clash (cc)
 stays-effect x b l i k v (handBack p iF sh) q = clash (cc)
 
 stays-delivered : (x : ℕ) (r : Reply) (i : ℕ) (m : Module) (j : ℕ) → Stays x (vcpuAt m j) (vcpuAt (deliver r i m) j)
-stays-delivered x (gives r) i m j h = h
-stays-delivered x (sends y) i m j h =
-    ap (λ (v : Vcpu). has (v .«irr_level») x) (vcpuAt-sent (icrItem y) (icrTarget y) i m j)
-    ∙ ap (λ (s : List ℕ). has s x) (level-reach (icrItem y) (icrTarget y) i (size m) j (vcpuAt m j)) ∙ h
+stays-delivered x r i m j h = ap (λ (s : List ℕ). has s x) (level-delivered r i m j) ∙ h
 
 pub keeps-level : (m : Module) (e : Event) (j x : ℕ) → x < 256 → isRequest (e .act) ≡ true → Stays x (vcpuAt m j) (vcpuAt (next m e) j)
 unfolding concluded

@@ -9,6 +9,8 @@ pub mod Fitting
 pub mod SoundRecords
 pub mod Reached
 pub mod Kept
+pub mod IcrBits
+pub mod IcrWrites
 pub mod ReadBack
 pub mod Demand1
 pub mod Demand2

@@ -1,19 +1,23 @@
--- Demand 2: the gate is what kernels expect (13.6 to 13.18). That each event's result, module and page are those of
+-- Demand 2: the gate is what kernels expect (13.6 to 13.18, 13.35 to 13.39). That each event's result, module and page are those of
 -- `step` and `start` is said by the functions' contracts; here is what else is claimed of them.
 -- Assumes nothing.
 use mathlib.Core.Path.{_≡_}
 use mathlib.Core.Bool.{Bool, true, false, _&&_, _||_}
 use mathlib.Core.List.{List}
-use Prim.Native.Nat.{ℕ, _<_}
+use Prim.Native.Nat.{ℕ, _^_, _<_}
+use lib.Bits.{bitOr}
 use lib.Dec.{eqb}
 use Rattle.model.specs.declared.Vcpu.{Vcpu}
 use Rattle.model.specs.declared.Module.{Module}
-use Rattle.model.specs.State.{isActive, vcpuAt, start}
+use Rattle.model.specs.State.{isActive, vcpuAt, start, withVcpu, withIcr}
 use Rattle.model.specs.Codes.{done}
 use Rattle.model.specs.Doorbell.{mapBits, announcingBit, Part, admitted}
+use Rattle.model.specs.Registers.{within}
+use Rattle.model.specs.Ipi.{icrLegal, icrItem, icrTarget}
 use Rattle.model.specs.Events.{Act, notice, call, entry, nonDelivery, handBack, at, Bytes, Event, step, next, final}
 use Rattle.model.specs.Causes.{isHandBack}
 use Rattle.model.specs.Reached.{Sound}
+use Rattle.vector_set.specs.Bits.{bitAt}
 use Rattle.vector_set.specs.Sets.{has, full, difference, highest}
 
 -- ---- the read-back
@@ -31,6 +35,38 @@ ReadsBack m i p iF sh =
     (r : ℕ) → step m (at i (handBack p iF sh)) .result ≡ done r
     → admitted (m .vmpl) full (announce (m .vmpl) (step m (at i (handBack p iF sh)) .page)) ≡ pendingPart (vcpuAt m i)
 
+-- ---- the ICR
+-- a reserved bit (7.8)
+abbrev pub isReserved : ℕ → Bool
+isReserved k = within 12 13 k || within 16 17 k || within 20 31 k
+
+-- a bit that may be either (7.5)
+abbrev pub is14Or15 : ℕ → Bool
+is14Or15 k = eqb k 14 || eqb k 15
+
+-- two values that are equal in every bit but 14 and 15
+abbrev pub EqualBut14And15 : ℕ → ℕ → Type 0
+EqualBut14And15 x y = (k : ℕ) → is14Or15 k ≡ false → bitAt x k ≡ bitAt y k
+
+-- both legal or neither, with one item and one target (13.35)
+pub record SameDelivery (x y : ℕ) : Type 0 where
+  pub legal : icrLegal x ≡ icrLegal y
+  pub item : icrItem x ≡ icrItem y
+  pub target : icrTarget x ≡ icrTarget y
+
+-- the vCPU i writes x to the ICR
+abbrev pub writesIcr : ℕ → ℕ → Event
+writesIcr i x = at i (call 3 0x830 x)
+
+-- a module with x in the ICR of the vCPU i
+abbrev pub withIcrAt : ℕ → ℕ → Module → Module
+withIcrAt i x m = withVcpu m i (withIcr x (vcpuAt m i))
+
+-- i's writes of x and of y on the module m have one result, and leave modules that differ in i's ICR at most (13.36)
+pub record SameWrite (m : Module) (i x y : ℕ) : Type 0 where
+  pub result : step m (writesIcr i x) .result ≡ step m (writesIcr i y) .result
+  pub after : withIcrAt i 0 (next m (writesIcr i x)) ≡ withIcrAt i 0 (next m (writesIcr i y))
+
 -- ---- the claim
 -- a request: a notice, or a guest call, which may be an IPI
 abbrev pub isRequest : Act Bytes → Bool
@@ -46,6 +82,18 @@ pub record Demand2 : Type 0 where
   -- of every module value: a notice and an IPI take no vector out of PL, on any vCPU
   pub keepsLevel : (m : Module) (e : Event) (j x : ℕ) → x < 256 → isRequest (e .act) ≡ true
       → has (vcpuAt m j .«irr_level») x ≡ true → has (vcpuAt (next m e) j .«irr_level») x ≡ true
+  -- of every module value: a guest call, an IPI among them, leaves PL as it is, on every vCPU
+  pub callsKeepLevel : (m : Module) (i op c x j : ℕ) → vcpuAt (next m (at i (call op c x))) j .«irr_level» ≡ vcpuAt m j .«irr_level»
   -- of every module value: the record of a vCPU that is not active changes by its own hand-back alone
   pub keepsInactive : (m : Module) (e : Event) (j : ℕ) → isActive (vcpuAt m j .phase) ≡ false → (isHandBack (e .act) && eqb j (e .vcpu)) ≡ false
       → vcpuAt (next m e) j ≡ vcpuAt m j
+  -- of every ICR value: a reserved bit refuses it (13.38)
+  pub reserved : (x k : ℕ) → isReserved k ≡ true → bitAt x k ≡ true → icrLegal x ≡ false
+  -- bits 14 and 15 have no part in what is sent; a value and the value with one of them set differ in no other bit (13.35)
+  pub setApart : (x b : ℕ) → is14Or15 b ≡ true → EqualBut14And15 x (bitOr x (2 ^ b))
+  pub sameDelivery : (x y : ℕ) → EqualBut14And15 x y → SameDelivery x y
+  -- of every module value: nor in what the write gives and leaves, the ICR apart (13.36)
+  pub sameWrite : (m : Module) (i x y : ℕ) → EqualBut14And15 x y → SameWrite m i x y
+  -- of every module value: a read right after an accepted write gives what was written (13.37)
+  pub icrReads : (m : Module) (i x z r : ℕ) → step m (writesIcr i x) .result ≡ done r
+      → step (next m (writesIcr i x)) (at i (call 2 0x830 z)) .result ≡ done x

@@ -150,7 +150,7 @@ pub record Effect : Type 0 where
   pub registrations : ℕ
   pub page : Bytes
 
--- a call, by what its numbers ask for; what was in flight is forgotten first (5.3, 7.19)
+-- a call, by what its numbers ask for; what was in flight is forgotten first (5.3, 7.19, 7.25)
 unfoldable pub callEffect : Request → ℕ → ℕ → Vcpu → Effect
 callEffect (request.Local o) i k v =
     record {

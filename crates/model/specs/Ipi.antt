@@ -34,10 +34,9 @@ abbrev pub icrDestination : ℕ → ℕ
 icrDestination x = x / 2 ^ 32
 
 -- ---- the legal values
--- bits 14 and 15; bits 12 and 13, 16 and 17, 20 to 31 (7.5, 7.8)
-unfoldable pub icrFixedBits : ℕ → Bool
-icrFixedBits x =
-    bitAt x 14 && not (bitAt x 15) && eqb (x / 2 ^ 12 % 4) 0 && eqb (x / 2 ^ 16 % 4) 0 && eqb (x / 2 ^ 20 % 2 ^ 12) 0
+-- the reserved bits, 12 and 13, 16 and 17, 20 to 31, are clear; 14 and 15 are not among them (7.5, 7.8)
+unfoldable pub icrReservedClear : ℕ → Bool
+icrReservedClear x = eqb (x / 2 ^ 12 % 4) 0 && eqb (x / 2 ^ 16 % 4) 0 && eqb (x / 2 ^ 20 % 2 ^ 12) 0
 
 -- Fixed, with a vector that may be sent (7.9)
 unfoldable pub icrIsFixed : ℕ → Bool
@@ -49,7 +48,7 @@ icrIsNmi x = eqb (icrType x) 4 && not (eqb (icrShorthand x) 1 || eqb (icrShortha
 
 -- the value may be written (7.11)
 unfoldable pub icrLegal : ℕ → Bool
-icrLegal x = icrFixedBits x && (icrIsFixed x || icrIsNmi x)
+icrLegal x = icrReservedClear x && (icrIsFixed x || icrIsNmi x)
 
 -- ---- what a legal value sends, and to whom
 -- the item that it sends (7.3, 7.17)

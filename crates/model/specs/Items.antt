@@ -69,7 +69,7 @@ pendingIn (Vector v) nmi irr = has irr v
 abbrev pub pending : Item → Vcpu → Bool
 pending x v = pendingIn x (v .nmi) (v .irr)
 
--- the item becomes pending, as edge (4.27, 7.17)
+-- the item becomes pending, as edge (4.27, 7.17, 7.24)
 unfoldable pub mark : Item → Vcpu → Vcpu
 mark Nmi v = withNmi true v
 mark (Vector x) v = withIrr (insert x (v .irr)) v

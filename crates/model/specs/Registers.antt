@@ -52,7 +52,7 @@ ldr i = i / 16 * 65536 + 2 ^ (i % 16)
 unfoldable pub tmr : Vcpu → List ℕ
 tmr v = union (v .«irr_level») (v .«isr_level»)
 
--- the value of a register of kind read or both, on the vCPU i (6.3 to 6.5, 6.7 to 6.11, 6.14, 6.20)
+-- the value of a register of kind read or both, on the vCPU i (6.3 to 6.5, 6.7 to 6.11, 6.14, 6.20, 7.25)
 unfoldable pub registerValue : ℕ → Vcpu → ℕ → ℕ
 registerValue i v r =
     cond (eqb r 0x802) i

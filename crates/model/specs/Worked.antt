@@ -1,7 +1,7 @@
--- Further worked cases (14.21 to 14.40, 14.42, 14.43), for what no claim says otherwise, and all cases of single events in one proposition.
+-- Further worked cases (14.21 to 14.40, 14.42, 14.43, 14.46 to 14.49), for what no claim says otherwise, and all cases of single events in one proposition.
 -- Assumes nothing.
 use mathlib.Core.Path.{_≡_}
-use mathlib.Core.Bool.{Bool, true, false, not}
+use mathlib.Core.Bool.{Bool, true, false, not, _&&_}
 use mathlib.Core.List.{List, [], _∷_}
 use Prim.Native.Nat.{ℕ, zero, suc, _+_}
 use lib.Dec.{eqb}
@@ -90,6 +90,21 @@ enters iF sh bl = at 0 (entry iF sh bl)
 abbrev nmi41 : Module
 nmi41 = having (withNmi true (withIrr (singleton 0x41) record0))
 
+-- vCPU 0 sends the item y by x to vCPU 1: it is reached and given the item, and the ICR reads as it was written
+abbrev arrives : Item → ℕ → Bool
+arrives y x =
+    gives 2 (resultOn fresh2 (icr x))
+    && answersBy (isShown y) (resultOn (next fresh2 (icr x)) (at 1 (entry true false false)))
+    && gives x (resultOn (next fresh2 (icr x)) (at 0 (call 2 0x830 0)))
+
+-- vCPU 0 sends itself 0x41 with bit 15 set
+abbrev self41 : Module
+self41 = next fresh2 (icr 0x48041)
+
+-- vCPU 1 sends itself 0xFF by the shorthand, with a destination of all ones in logical mode
+abbrev selfFF : Event
+selfFF = at 1 (call 3 0x830 0xFFFFFFFF000448FF)
+
 -- the module of case 14.8 after an entry and a non-delivery
 abbrev given61 : Module
 given61 = next (next level61 (enters true false false)) (at 0 nonDelivery)
@@ -138,18 +153,24 @@ further =
     ∷ reads 0 0x818 (withIsrLevel (singleton 0xFF) (withIrrLevel (singleton 0x20) record0))
     ∷ reads 1 0x827 (withIrr (singleton 0xE0) record0)
     -- 14.28: values that the ICR does not take
-    ∷ refuses 0x0041
     ∷ refuses 0x5041
     ∷ refuses 0x6041
-    ∷ refuses 0xC041
     ∷ refuses 0x14041
     ∷ refuses 0x24041
     ∷ refuses 0x104041
     ∷ refuses 0x80004041
     ∷ refuses 0x4141
+    ∷ refuses 0x4241
+    ∷ refuses 0x4341
+    ∷ refuses 0x4541
+    ∷ refuses 0x4641
+    ∷ refuses 0x4741
     ∷ refuses 0x401E
+    ∷ refuses 0x200000401E
     ∷ refuses 0x44400
+    ∷ refuses 0x44441
     ∷ refuses 0x84400
+    ∷ refuses 0x84441
     -- 14.29, 14.30: whom an IPI reaches
     ∷ reachesOf18 0x3FFFE 0xC4400
     ∷ reachesOf18 0x00001 0x44041
@@ -211,6 +232,29 @@ further =
     -- 14.43: an entry forgets what the one before it presented
     ∷ isNothing (resultOn shown41 (enters true false false))
     ∷ isRefused 4 (resultOn (next shown41 (enters true false false)) (at 0 nonDelivery))
+    -- 14.46: bits 14 and 15 of the ICR, whichever way they stand
+    ∷ arrives (item.Vector 0x41) 0x100000041
+    ∷ arrives (item.Vector 0x41) 0x100004041
+    ∷ arrives (item.Vector 0x41) 0x100008041
+    ∷ arrives (item.Vector 0x41) 0x10000C041
+    ∷ arrives item.Nmi 0x100000400
+    ∷ arrives item.Nmi 0x100004400
+    ∷ arrives item.Nmi 0x100008400
+    ∷ arrives item.Nmi 0x10000C400
+    -- 14.47: bit 15 makes no request level-sensitive
+    ∷ gives 2 (resultOn self41 (at 0 (call 2 0x822 0)))
+    ∷ gives 0 (resultOn self41 (at 0 (call 2 0x81A 0)))
+    ∷ gives 0 (resultOn (next self41 (enters true false false)) eoi)
+    -- 14.48: other vectors, modes and callers
+    ∷ gives 2 (resultOn fresh2 selfFF)
+    ∷ answersBy (isShown (item.Vector 0xFF)) (resultOn (next fresh2 selfFF) (at 1 (entry true false false)))
+    ∷ arrives (item.Vector 0x1F) 0x10000401F
+    ∷ arrives item.Nmi 0x200000C1E
+    ∷ gives 2 (resultOn fresh2 (icr 0xC4041))
+    ∷ reachesOf18 0 0x2000004041
+    ∷ reachesOf18 0 0xFF00004041
+    -- 14.49: an ICR write forgets what an entry presented
+    ∷ isRefused 4 (resultOn (next shown41 (icr 0x100004041)) (at 0 nonDelivery))
     ∷ []
 
 -- ---- all of them

@@ -206,13 +206,18 @@ impl Generator {
         let mut value = vector as u64
             + kind * 0x100
             + logical * 0x800
-            + 0x4000
+            + self.assert_and_trigger()
             + shorthand * 0x4_0000
             + destination * 0x1_0000_0000;
         if self.random.chance(22) {
             value = self.broken(value);
         }
         write(vcpu, ICR, value)
+    }
+
+    /// Bits 14 and 15, mostly as kernels write them (7.5).
+    fn assert_and_trigger(&mut self) -> u64 {
+        self.random.pick(&[0x4000, 0x4000, 0x0000, 0x8000, 0xC000])
     }
 
     fn destination(&mut self, logical: bool) -> u64 {
@@ -241,12 +246,11 @@ impl Generator {
     fn broken(&mut self, value: u64) -> u64 {
         let r = &mut self.random;
         let kind = r.pick(&[1, 2, 3, 5, 6, 7]);
-        match r.below(6) {
-            0 => value & !0x4000,
-            1 => value | 1 << r.pick(&[12, 13, 15, 16, 17]),
-            2 => value | 1 << r.between(20, 31),
-            3 => (value & !0x700) | kind << 8,
-            4 => (value & !0x7FF) | r.pick(&[0, 1, 2, 15, 16, 29, 30]),
+        match r.below(5) {
+            0 => value | 1 << r.pick(&[12, 13, 16, 17]),
+            1 => value | 1 << r.between(20, 31),
+            2 => (value & !0x700) | kind << 8,
+            3 => (value & !0x7FF) | r.pick(&[0, 1, 2, 15, 16, 29, 30]),
             _ => (value & !0xC_0700) | 0x400 | r.pick(&[1, 2]) << 18,
         }
     }
@@ -255,9 +259,10 @@ impl Generator {
     pub(super) fn send_to(&mut self, vcpu: u32, item: Item) -> Event {
         let sender = self.vcpu();
         let low = match item {
-            Item::Nmi => 0x4400,
-            Item::Vector(v) => 0x4000 + v as u64,
+            Item::Nmi => 0x400,
+            Item::Vector(v) => v as u64,
         };
-        write(sender, ICR, u64::from(vcpu) * 0x1_0000_0000 + low)
+        let bits = self.assert_and_trigger();
+        write(sender, ICR, u64::from(vcpu) * 0x1_0000_0000 + bits + low)
     }
 }

@@ -45,3 +45,6 @@ pub fn write(m: &mut Module, vcpu: u32, register: u32, value: u64) -> Result<u64
 pub const LEAVE: u32 = 0;
 pub const DEREGISTER: u32 = 1;
 pub const REGISTER: u32 = 2;
+
+/// The ways in which ICR bits 14 and 15 can stand (7.5).
+pub const BITS_14_AND_15: [u64; 4] = [0, 0x4000, 0x8000, 0xC000];

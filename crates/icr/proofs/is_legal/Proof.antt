@@ -8,18 +8,18 @@ returns : tie.Need-returns
 unfolding icrLegal
 returns c =
     let b = c .before .before in
-    rw (← b .before .has-fixed-bits .ensures, b .if1 .taken, ← c .before .is-fixed .ensures, c .if2 .taken)
+    rw (← b .before .reserved-clear .ensures, b .if1 .taken, ← c .before .is-fixed .ensures, c .if2 .taken)
 
 returns-2 : tie.Need-returns-2
 unfolding icrLegal
 returns-2 c =
     let b = c .before .before .before in
-    rw (← b .before .has-fixed-bits .ensures, b .if1 .taken, ← c .before .before .is-fixed .ensures, c .before .if2 .left)
+    rw (← b .before .reserved-clear .ensures, b .if1 .taken, ← c .before .before .is-fixed .ensures, c .before .if2 .left)
     (c .is-nmi .ensures)
 
 returns-3 : tie.Need-returns-3
 unfolding icrLegal
-returns-3 c = rw (← c .before .has-fixed-bits .ensures, c .if1 .left)
+returns-3 c = rw (← c .before .reserved-clear .ensures, c .if1 .left)
 
 pub is-legal-spec : {M : Type 1} → statement M
 is-legal-spec =

@@ -1,0 +1,180 @@
+-- A write to the ICR: bits 14 and 15 change nothing but the ICR itself, which reads as it was written.
+-- Assumes nothing.
+use mathlib.Core.Path.{_≡_, refl, sym, ap, _∙_}
+use mathlib.Core.Bool.{Bool, true, false, cond}
+use mathlib.Core.List.{List, [], _∷_}
+use Prim.Native.Nat.{ℕ, zero, suc, _<_}
+use lib.Dec.{ltb}
+use lib.ListN.{length, getD, set}
+use borrow.Author.Tests.{eq-eqb}
+use Rattle.vector_set.proofs.Laws.{clash}
+use Rattle.model.specs.declared.Item.{Item}
+use Rattle.model.specs.declared.Item.the-variants as item
+use Rattle.model.specs.declared.Target.{Target}
+use Rattle.model.specs.declared.Refusal.the-variants.{UnknownVcpu, NotActive}
+use Rattle.model.specs.declared.Request.{Request}
+use Rattle.model.specs.declared.Request.the-variants as request
+use Rattle.model.specs.declared.Vcpu.{Vcpu}
+use Rattle.model.specs.declared.Module.{Module}
+use Rattle.model.specs.State.{isActive, absent, size, vcpuAt, withVcpu, withRegistrations, withIcr}
+use Rattle.model.specs.Codes.{Verdict, accept, refuse, need, done}
+use Rattle.model.specs.Registers.{isRead, isWrite, isBoth, kindOf, registerValue}
+use Rattle.model.specs.Requests.{bad, writeValue, requestOf, forget, serve, callVerdict}
+use Rattle.model.specs.Ipi.{icrLegal, icrItem, icrTarget, reached, reach, mapFrom, sent}
+use Rattle.model.specs.Items.{mark}
+use Rattle.model.specs.Events.{call, at, vcpuVerdict, verdict, Effect, callEffect, effect, effectOf, Out, refusal, concluded, decided, step, next}
+use Rattle.model.specs.Demand2.{EqualBut14And15, writesIcr, withIcrAt, SameWrite}
+use Rattle.model.proofs.Stored.{on-put, vcpuAt-count, size-put, size-count, vcpuAt-sent, by-reach, needed, by-verdict, Known, known-of}
+use Rattle.model.proofs.ItemLaws.{rest-mark}
+use Rattle.model.proofs.IcrBits.{same-delivery}
+
+-- ---- a write
+-- what an event without a page gives, by its verdict
+abbrev over : Verdict → Effect → ℕ → Module → Out
+over accept f i m = concluded f i m
+over (refuse c) f i m = refusal c m []
+
+-- what the vCPU i gets that asks for r
+abbrev asks : Module → ℕ → Request → Out
+asks m i r =
+    over (need (ltb i (size m)) UnknownVcpu (need (isActive (vcpuAt m i .phase)) NotActive (callVerdict r i (m .registrations) (forget (vcpuAt m i)))))
+    (callEffect r i (m .registrations) (vcpuAt m i)) i m
+
+by-request : (m : Module) (i op c x : ℕ) → step m (at i (call op c x)) ≡ asks m i (requestOf op c x)
+unfolding step verdict vcpuVerdict effect
+by-request m i op c x = pick (verdict m (at i (call op c x)))
+  where
+    pick : (g : Verdict) → decided g m (at i (call op c x)) ≡ over g (callEffect (requestOf op c x) i (m .registrations) (vcpuAt m i)) i m
+    pick accept = refl
+    pick (refuse r) = refl
+
+-- what a write asks for
+asked : (x : ℕ) → requestOf 3 0x830 x ≡ cond (icrLegal x) (request.Icr x) bad
+unfolding requestOf writeValue kindOf isRead isWrite isBoth
+asked x = refl
+
+written : (m : Module) (i x : ℕ) → step m (writesIcr i x) ≡ asks m i (cond (icrLegal x) (request.Icr x) bad)
+written m i x = by-request m i 3 0x830 x ∙ ap (asks m i) (asked x)
+
+-- ---- the module after it, the caller's ICR aside
+-- an IPI neither reads nor writes an ICR
+reach-icr : (y : Item) (t : Target) (i n k x : ℕ) (v : Vcpu) → withIcr 0 (reach y t i n k (withIcr x v)) ≡ reach y t i n k (withIcr 0 v)
+unfolding reach mark
+reach-icr y t i n k x v = pick (reached t i n k (v .phase)) y
+  where
+    pick : (b : Bool) (y : Item) → withIcr 0 (cond b (mark y (withIcr x v)) (withIcr x v)) ≡ cond b (mark y (withIcr 0 v)) (withIcr 0 v)
+    pick true item.Nmi = refl
+    pick true (item.Vector z) = refl
+    pick false y = refl
+
+-- the record i of a list that is gone through, its ICR put to 0 afterwards or before
+icr-aside : (f : ℕ → Vcpu → Vcpu) → ((k x : ℕ) (v : Vcpu) → withIcr 0 (f k (withIcr x v)) ≡ f k (withIcr 0 v))
+    → (l : List Vcpu) (k i x : ℕ) (w : Vcpu)
+    → (let s = mapFrom f k (set l i (withIcr x w)) in set s i (withIcr 0 (getD s i absent))) ≡ mapFrom f k (set l i (withIcr 0 w))
+unfolding mapFrom
+icr-aside f h [] k i x w = refl
+icr-aside f h (v ∷ l) k zero x w = ap (λ u. u ∷ mapFrom f (suc k) l) (h k x w)
+icr-aside f h (v ∷ l) k (suc i) x w = ap (λ s. f k v ∷ s) (icr-aside f h l (suc k) i x w)
+
+sent-aside : (y : Item) (t : Target) (m : Module) (i k x : ℕ) (w : Vcpu)
+    → withIcrAt i 0 (sent y t i (withRegistrations k (withVcpu m i (withIcr x w)))) ≡ sent y t i (withRegistrations k (withVcpu m i (withIcr 0 w)))
+unfolding sent withVcpu withRegistrations vcpuAt size
+sent-aside y t m i k x w =
+    ap (λ (l : List Vcpu). record { n = m .n; vmpl = m .vmpl; registrations = k; vcpus = l })
+    (icr-aside (reach y t i (size m)) (λ j. reach-icr y t i (size m) j) (m .vcpus) 0 i x w)
+
+abbrev Same : ℕ → Out → Out → Type 0
+Same i o p = (o .result ≡ p .result) × (withIcrAt i 0 (o .after) ≡ withIcrAt i 0 (p .after))
+
+-- what writes of x and of y give that send the same
+same-asks : (m : Module) (i x y : ℕ) (b : Bool) → icrItem x ≡ icrItem y → icrTarget x ≡ icrTarget y
+    → Same i (asks m i (cond b (request.Icr x) bad)) (asks m i (cond b (request.Icr y) bad))
+unfolding callVerdict callEffect concluded
+same-asks m i x y false p q = (refl, refl)
+same-asks m i x y true p q = pick (ltb i (size m)) (isActive (vcpuAt m i .phase))
+  where
+    reply : ℕ → Effect
+    reply z = callEffect (request.Icr z) i (m .registrations) (vcpuAt m i)
+
+    pick : (a c : Bool)
+        → Same i (over (need a UnknownVcpu (need c NotActive accept)) (reply x) i m) (over (need a UnknownVcpu (need c NotActive accept)) (reply y) i m)
+    pick true true = (
+      rw q,
+      rw (p, q)
+          (sent-aside (icrItem y) (icrTarget y) m i (m .registrations) x (forget (vcpuAt m i))
+          ∙ sym (sent-aside (icrItem y) (icrTarget y) m i (m .registrations) y (forget (vcpuAt m i)))),
+    )
+    pick true false = (refl, refl)
+    pick false c = (refl, refl)
+
+pub same-write : (m : Module) (i x y : ℕ) → EqualBut14And15 x y → SameWrite m i x y
+same-write m i x y e =
+    let d = same-delivery x y e in
+    let s = same-asks m i x y (icrLegal x) (d .item) (d .target) in
+    let p = written m i x in
+    let q = written m i y ∙ ap (λ (b : Bool). asks m i (cond b (request.Icr y) bad)) (sym (d .legal)) in
+    record {
+      result = ap (λ (o : Out). o .result) p ∙ s .0 ∙ sym (ap (λ (o : Out). o .result) q);
+      after = ap (λ (o : Out). withIcrAt i 0 (o .after)) p ∙ s .1 ∙ sym (ap (λ (o : Out). withIcrAt i 0 (o .after)) q);
+    }
+
+-- ---- a read after it
+-- the caller's record after it
+caller-after : (y : Item) (t : Target) (m : Module) (i k : ℕ) (w : Vcpu) → i < length (m .vcpus)
+    → vcpuAt (sent y t i (withRegistrations k (withVcpu m i w))) i ≡ reach y t i (size m) i w
+caller-after y t m i k w l =
+    vcpuAt-sent y t i (withRegistrations k (withVcpu m i w)) i
+    ∙ rw (size-count, size-put, vcpuAt-count)
+    (on-put m i w i l (λ _ b _ u. b ≡ true → reach y t i (size m) i u ≡ reach y t i (size m) i w) (λ _. refl) (λ z. clash (cc)) (eq-eqb i i refl))
+
+reads-at : (u : Module) (i z : ℕ) → ltb i (size u) ≡ true → isActive (vcpuAt u i .phase) ≡ true
+    → step u (at i (call 2 0x830 z)) .result ≡ done (vcpuAt u i .icr)
+unfolding callVerdict serve callEffect concluded registerValue requestOf kindOf isRead isWrite isBoth
+reads-at u i z a c = ap (λ (o : Out). o .result) (by-request u i 2 0x830 z) ∙ rw (a, c)
+
+-- an accepted write sends its value
+sends-value : (m : Module) (i x : ℕ) → verdict m (writesIcr i x) ≡ accept → requestOf 3 0x830 x ≡ request.Icr x
+unfolding verdict vcpuVerdict callVerdict
+sends-value m i x p = pick (icrLegal x) refl
+  where
+    pick : (b : Bool) → icrLegal x ≡ b → requestOf 3 0x830 x ≡ request.Icr x
+    pick true e = asked x ∙ rw e
+    pick false e =
+        let g : requestOf 3 0x830 x ≡ bad = asked x ∙ rw e in
+        let a = needed (ltb i (size m)) UnknownVcpu _ p in
+        let b = rw g at (needed (isActive (vcpuAt m i .phase)) NotActive _ (a .1) .1) in
+        clash (cc)
+
+-- the module after it
+abbrev writtenAfter : Module → ℕ → ℕ → Module
+writtenAfter m i x =
+    sent (icrItem x) (icrTarget x) i (withRegistrations (m .registrations) (withVcpu m i (withIcr x (forget (vcpuAt m i)))))
+
+after-write : (m : Module) (i x : ℕ) → requestOf 3 0x830 x ≡ request.Icr x → concluded (effectOf m (writesIcr i x)) i m .after ≡ writtenAfter m i x
+unfolding effect callEffect concluded
+after-write m i x e = rw e
+
+size-written : (m : Module) (i x : ℕ) → size (writtenAfter m i x) ≡ size m
+unfolding sent withVcpu withRegistrations size
+size-written m i x = refl
+
+-- a fact of the caller's record after it that an IPI keeps
+at-caller : {A : Type 0} (f : Vcpu → A) (m : Module) (i x : ℕ) → i < length (m .vcpus) → ((y : Item) (v : Vcpu) → f (mark y v) ≡ f v)
+    → f (vcpuAt (writtenAfter m i x) i) ≡ f (withIcr x (forget (vcpuAt m i)))
+at-caller f m i x l h =
+    let w = withIcr x (forget (vcpuAt m i)) in
+    ap f (caller-after (icrItem x) (icrTarget x) m i (m .registrations) w l)
+    ∙ by-reach (icrItem x) (icrTarget x) i (size m) i w (λ u. f u ≡ f w) (h (icrItem x) w) refl
+
+reads-after : (m : Module) (i x z : ℕ) → Known m i isActive → step (writtenAfter m i x) (at i (call 2 0x830 z)) .result ≡ done x
+reads-after m i x z k =
+    reads-at (writtenAfter m i x) i z (ap (ltb i) (size-written m i x) ∙ k .below)
+    (at-caller (λ (v : Vcpu). isActive (v .phase)) m i x (k .there) (λ y v. ap (λ (u : Vcpu). isActive (u .phase)) (rest-mark y v)) ∙ k .phase)
+    ∙ ap done (at-caller (λ (v : Vcpu). v .icr) m i x (k .there) (λ y v. ap (λ (u : Vcpu). u .icr) (rest-mark y v)))
+
+pub icr-reads : (m : Module) (i x z r : ℕ) → step m (writesIcr i x) .result ≡ done r
+    → step (next m (writesIcr i x)) (at i (call 2 0x830 z)) .result ≡ done x
+icr-reads m i x z r =
+    by-verdict m (writesIcr i x) (λ o. o .result ≡ done r → step (o .after) (at i (call 2 0x830 z)) .result ≡ done x) (λ c p h. clash (cc))
+    (λ p h. ap (λ (u : Module). step u (at i (call 2 0x830 z)) .result) (after-write m i x (sends-value m i x p))
+    ∙ reads-after m i x z (known-of m i (call 3 0x830 x) p))

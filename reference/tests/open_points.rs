@@ -310,7 +310,7 @@ fn shorthands_and_nmi_vectors() {
 
 /// 7.5, 13.36: for both types, every shorthand and both modes; the module is the same but for the ICR.
 #[test]
-fn icr_bits_14_and_15_change_nothing_in_delivery() {
+fn icr_bits_14_and_15_play_no_part_in_delivery() {
     for low in [
         0x41, 0x841, 0x400, 0xC00, 0x4_0041, 0x8_0041, 0xC_0041, 0xC_0400,
     ] {

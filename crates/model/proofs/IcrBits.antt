@@ -1,4 +1,4 @@
--- The ICR's bits: what the reserved ones refuse, and that 14 and 15 change nothing in delivery.
+-- The ICR's bits: what the reserved ones refuse, and that 14 and 15 play no part in delivery.
 -- Assumes nothing.
 use mathlib.Core.Path.{_≡_, refl, sym, ap, _∙_}
 use mathlib.Core.Bool.{Bool, true, false, _&&_, _||_, and-false, or-false}

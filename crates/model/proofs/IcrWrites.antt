@@ -1,4 +1,4 @@
--- A write to the ICR: bits 14 and 15 change nothing but the ICR itself, which reads as it was written.
+-- A write to the ICR: bits 14 and 15 matter to the ICR alone, and a read after it gives the value.
 -- Assumes nothing.
 use mathlib.Core.Path.{_≡_, refl, sym, ap, _∙_}
 use mathlib.Core.Bool.{Bool, true, false, cond}

@@ -44,7 +44,7 @@ isReserved k = within 12 13 k || within 16 17 k || within 20 31 k
 abbrev pub is14Or15 : ℕ → Bool
 is14Or15 k = eqb k 14 || eqb k 15
 
--- two values that are equal in every bit but 14 and 15
+-- two values that are equal in every bit but 14 and 15 (13.35)
 abbrev pub EqualBut14And15 : ℕ → ℕ → Type 0
 EqualBut14And15 x y = (k : ℕ) → is14Or15 k ≡ false → bitAt x k ≡ bitAt y k
 
@@ -82,7 +82,7 @@ pub record Demand2 : Type 0 where
   -- of every module value: a notice and an IPI take no vector out of PL, on any vCPU
   pub keepsLevel : (m : Module) (e : Event) (j x : ℕ) → x < 256 → isRequest (e .act) ≡ true
       → has (vcpuAt m j .«irr_level») x ≡ true → has (vcpuAt (next m e) j .«irr_level») x ≡ true
-  -- of every module value: a guest call, an IPI among them, leaves PL as it is, on every vCPU
+  -- of every module value: a guest call, an IPI among them, leaves PL as it is, on every vCPU (13.39)
   pub callsKeepLevel : (m : Module) (i op c x j : ℕ) → vcpuAt (next m (at i (call op c x))) j .«irr_level» ≡ vcpuAt m j .«irr_level»
   -- of every module value: the record of a vCPU that is not active changes by its own hand-back alone
   pub keepsInactive : (m : Module) (e : Event) (j : ℕ) → isActive (vcpuAt m j .phase) ≡ false → (isHandBack (e .act) && eqb j (e .vcpu)) ≡ false

@@ -21,7 +21,7 @@ use Rattle.model.proofs.Reached.{AllSound, all-reached}
 use Rattle.model.proofs.ReadBack.{read-back}
 use Rattle.model.proofs.Kept.{keeps-level, calls-keep-level, keeps-inactive}
 use Rattle.model.proofs.IcrBits.{reserved, set-apart, same-delivery}
-use Rattle.model.proofs.IcrWrites.{same-write, icr-reads}
+use Rattle.model.proofs.IcrWrites.{same-write, icr-reads, icr-touches}
 
 -- ---- what acceptance tells
 -- a vCPU is below n only where L is 1 to 3
@@ -69,4 +69,5 @@ demand2 =
       sameDelivery = same-delivery;
       sameWrite = same-write;
       icrReads = icr-reads;
+      icrTouches = icr-touches;
     }

@@ -1,12 +1,13 @@
--- A write to the ICR: bits 14 and 15 matter to the ICR alone, and a read after it gives the value.
+-- A write to the ICR: bits 14 and 15 matter to the ICR alone, what it touches, and that a read after it gives the value.
 -- Assumes nothing.
-use mathlib.Core.Path.{_≡_, refl, sym, ap, _∙_}
+use mathlib.Core.Path.{_≡_, refl, sym, ap, _∙_, subst}
 use mathlib.Core.Bool.{Bool, true, false, cond}
 use mathlib.Core.List.{List, [], _∷_}
 use Prim.Native.Nat.{ℕ, zero, suc, _<_}
-use lib.Dec.{ltb}
+use lib.Dec.{ltb, eqb}
 use lib.ListN.{length, getD, set}
 use borrow.Author.Tests.{eq-eqb}
+use Rattle.vector_set.specs.Sets.{empty}
 use Rattle.vector_set.proofs.Laws.{clash}
 use Rattle.model.specs.declared.Item.{Item}
 use Rattle.model.specs.declared.Item.the-variants as item
@@ -16,15 +17,15 @@ use Rattle.model.specs.declared.Request.{Request}
 use Rattle.model.specs.declared.Request.the-variants as request
 use Rattle.model.specs.declared.Vcpu.{Vcpu}
 use Rattle.model.specs.declared.Module.{Module}
-use Rattle.model.specs.State.{isActive, absent, size, vcpuAt, withVcpu, withRegistrations, withIcr}
+use Rattle.model.specs.State.{isActive, absent, size, vcpuAt, withVcpu, withRegistrations, withIrr, withNmi, withIcr}
 use Rattle.model.specs.Codes.{Verdict, accept, refuse, need, done}
 use Rattle.model.specs.Registers.{isRead, isWrite, isBoth, kindOf, registerValue}
 use Rattle.model.specs.Requests.{bad, writeValue, requestOf, forget, serve, callVerdict}
 use Rattle.model.specs.Ipi.{icrLegal, icrItem, icrTarget, reached, reach, mapFrom, sent}
-use Rattle.model.specs.Items.{mark}
+use Rattle.model.specs.Items.{mark, unmarkAll}
 use Rattle.model.specs.Events.{call, at, vcpuVerdict, verdict, Effect, callEffect, effect, effectOf, Out, refusal, concluded, decided, step, next}
 use Rattle.model.specs.Demand2.{EqualBut14And15, writesIcr, withIcrAt, SameWrite}
-use Rattle.model.proofs.Stored.{on-put, vcpuAt-count, size-put, size-count, vcpuAt-sent, by-reach, needed, by-verdict, Known, known-of}
+use Rattle.model.proofs.Stored.{on-put, vcpuAt-count, vcpuAt-sent, by-reach, needed, by-verdict, Known, known-of}
 use Rattle.model.proofs.ItemLaws.{rest-mark}
 use Rattle.model.proofs.IcrBits.{same-delivery}
 
@@ -118,15 +119,7 @@ same-write m i x y e =
       after = ap (λ (o : Out). withIcrAt i 0 (o .after)) p ∙ s .1 ∙ sym (ap (λ (o : Out). withIcrAt i 0 (o .after)) q);
     }
 
--- ---- a read after it
--- the caller's record after it
-caller-after : (y : Item) (t : Target) (m : Module) (i k : ℕ) (w : Vcpu) → i < length (m .vcpus)
-    → vcpuAt (sent y t i (withRegistrations k (withVcpu m i w))) i ≡ reach y t i (size m) i w
-caller-after y t m i k w l =
-    vcpuAt-sent y t i (withRegistrations k (withVcpu m i w)) i
-    ∙ rw (size-count, size-put, vcpuAt-count)
-    (on-put m i w i l (λ _ b _ u. b ≡ true → reach y t i (size m) i u ≡ reach y t i (size m) i w) (λ _. refl) (λ z. clash (cc)) (eq-eqb i i refl))
-
+-- ---- what it touches, and a read after it
 reads-at : (u : Module) (i z : ℕ) → ltb i (size u) ≡ true → isActive (vcpuAt u i .phase) ≡ true
     → step u (at i (call 2 0x830 z)) .result ≡ done (vcpuAt u i .icr)
 unfolding callVerdict serve callEffect concluded registerValue requestOf kindOf isRead isWrite isBoth
@@ -158,23 +151,47 @@ size-written : (m : Module) (i x : ℕ) → size (writtenAfter m i x) ≡ size m
 unfolding sent withVcpu withRegistrations size
 size-written m i x = refl
 
--- a fact of the caller's record after it that an IPI keeps
-at-caller : {A : Type 0} (f : Vcpu → A) (m : Module) (i x : ℕ) → i < length (m .vcpus) → ((y : Item) (v : Vcpu) → f (mark y v) ≡ f v)
+-- an IPI touches what is pending alone
+unmarked-reach : (y : Item) (t : Target) (i n k : ℕ) (v : Vcpu) → unmarkAll (reach y t i n k v) ≡ unmarkAll v
+unfolding unmarkAll
+unmarked-reach y t i n k v =
+    by-reach y t i n k v (λ u. unmarkAll u ≡ unmarkAll v) (ap (λ (u : Vcpu). withNmi false (withIrr empty u)) (rest-mark y v)) refl
+
+-- the record j after it, but for what is pending
+touched : (m : Module) (i x j : ℕ) → i < length (m .vcpus)
+    → unmarkAll (vcpuAt (writtenAfter m i x) j) ≡ unmarkAll (cond (eqb j i) (withIcr x (forget (vcpuAt m j))) (vcpuAt m j))
+touched m i x j l =
+    ap unmarkAll (vcpuAt-sent (icrItem x) (icrTarget x) i _ j) ∙ unmarked-reach (icrItem x) (icrTarget x) i _ j _
+    ∙ rw (vcpuAt-count)
+    (on-put m i (withIcr x (forget (vcpuAt m i))) j l (λ _ b u v. unmarkAll v ≡ unmarkAll (cond b (withIcr x (forget u)) u)) refl refl)
+
+-- a part of the caller's record after it that is not what is pending
+at-caller : {A : Type 0} (f : Vcpu → A) (m : Module) (i x : ℕ) → i < length (m .vcpus) → ((v : Vcpu) → f (unmarkAll v) ≡ f v)
     → f (vcpuAt (writtenAfter m i x) i) ≡ f (withIcr x (forget (vcpuAt m i)))
 at-caller f m i x l h =
-    let w = withIcr x (forget (vcpuAt m i)) in
-    ap f (caller-after (icrItem x) (icrTarget x) m i (m .registrations) w l)
-    ∙ by-reach (icrItem x) (icrTarget x) i (size m) i w (λ u. f u ≡ f w) (h (icrItem x) w) refl
+    let t = rw (eq-eqb i i refl) at (touched m i x i l) in
+    sym (h (vcpuAt (writtenAfter m i x) i)) ∙ ap f t ∙ h (withIcr x (forget (vcpuAt m i)))
 
 reads-after : (m : Module) (i x z : ℕ) → Known m i isActive → step (writtenAfter m i x) (at i (call 2 0x830 z)) .result ≡ done x
+unfolding unmarkAll
 reads-after m i x z k =
     reads-at (writtenAfter m i x) i z (ap (ltb i) (size-written m i x) ∙ k .below)
-    (at-caller (λ (v : Vcpu). isActive (v .phase)) m i x (k .there) (λ y v. ap (λ (u : Vcpu). isActive (u .phase)) (rest-mark y v)) ∙ k .phase)
-    ∙ ap done (at-caller (λ (v : Vcpu). v .icr) m i x (k .there) (λ y v. ap (λ (u : Vcpu). u .icr) (rest-mark y v)))
+    (at-caller (λ (v : Vcpu). isActive (v .phase)) m i x (k .there) (λ v. refl) ∙ k .phase)
+    ∙ ap done (at-caller (λ (v : Vcpu). v .icr) m i x (k .there) (λ v. refl))
+
+-- what is shown of the module after an accepted write
+by-accepted : (m : Module) (i x r : ℕ) (P : Module → Type 0) → (Known m i isActive → P (writtenAfter m i x))
+    → step m (writesIcr i x) .result ≡ done r → P (next m (writesIcr i x))
+by-accepted m i x r P h =
+    by-verdict m (writesIcr i x) (λ o. o .result ≡ done r → P (o .after)) (λ c p e. clash (cc))
+    (λ p e. subst P (sym (after-write m i x (sends-value m i x p))) (h (known-of m i (call 3 0x830 x) p)))
 
 pub icr-reads : (m : Module) (i x z r : ℕ) → step m (writesIcr i x) .result ≡ done r
     → step (next m (writesIcr i x)) (at i (call 2 0x830 z)) .result ≡ done x
-icr-reads m i x z r =
-    by-verdict m (writesIcr i x) (λ o. o .result ≡ done r → step (o .after) (at i (call 2 0x830 z)) .result ≡ done x) (λ c p h. clash (cc))
-    (λ p h. ap (λ (u : Module). step u (at i (call 2 0x830 z)) .result) (after-write m i x (sends-value m i x p))
-    ∙ reads-after m i x z (known-of m i (call 3 0x830 x) p))
+icr-reads m i x z r = by-accepted m i x r (λ u. step u (at i (call 2 0x830 z)) .result ≡ done x) (reads-after m i x z)
+
+pub icr-touches : (m : Module) (i x j r : ℕ) → step m (writesIcr i x) .result ≡ done r
+    → unmarkAll (vcpuAt (next m (writesIcr i x)) j) ≡ unmarkAll (cond (eqb j i) (withIcr x (forget (vcpuAt m j))) (vcpuAt m j))
+icr-touches m i x j r =
+    by-accepted m i x r (λ u. unmarkAll (vcpuAt u j) ≡ unmarkAll (cond (eqb j i) (withIcr x (forget (vcpuAt m j))) (vcpuAt m j)))
+    (λ k. touched m i x j (k .there))

@@ -207,6 +207,13 @@ fn ipis_by_other_vectors_modes_and_callers() {
     }
 }
 
+/// 14.48: an NMI to every vCPU
+#[test]
+fn an_nmi_to_the_destination_of_all_ones() {
+    let mut m = fresh(2, 1);
+    assert_eq!(write(&mut m, 0, ICR, 0xFFFF_FFFF_0000_4400), Ok(3));
+}
+
 /// 14.31, 14.32, 14.40
 #[test]
 fn what_is_stored_and_answered() {

@@ -19,7 +19,7 @@ use Rattle.vector_set.proofs.Laws.{clash}
 use Rattle.model.proofs.Stored.{needed}
 use Rattle.model.proofs.Reached.{AllSound, all-reached}
 use Rattle.model.proofs.ReadBack.{read-back}
-use Rattle.model.proofs.Kept.{keeps-level, calls-keep-level, keeps-inactive}
+use Rattle.model.proofs.Kept.{keeps-level, calls-keep-level, calls-keep-pending, keeps-inactive}
 use Rattle.model.proofs.IcrBits.{reserved, set-apart, same-delivery}
 use Rattle.model.proofs.IcrWrites.{same-write, icr-reads, icr-touches}
 
@@ -63,6 +63,7 @@ demand2 =
       readBack = λ n l es. reads-back (final (start n l) es) (all-reached n l es);
       keepsLevel = keeps-level;
       callsKeepLevel = calls-keep-level;
+      callsKeepPending = calls-keep-pending;
       keepsInactive = keeps-inactive;
       reserved = reserved;
       setApart = set-apart;

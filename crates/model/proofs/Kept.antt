@@ -1,7 +1,8 @@
--- What an event keeps, of every module value: the members of PL under a request, and the record of a vCPU that is not active.
+-- What an event keeps, of every module value: PL and what is pending under a guest call, the members of PL under a request, and the record of a vCPU
+-- that is not active.
 -- Assumes nothing.
-use mathlib.Core.Path.{_≡_, refl, ap, _∙_}
-use mathlib.Core.Bool.{Bool, true, false, cond, _&&_, _||_}
+use mathlib.Core.Path.{_≡_, refl, sym, ap, _∙_, subst}
+use mathlib.Core.Bool.{Bool, true, false, cond, _&&_, _||_, or-true}
 use mathlib.Core.List.{List}
 use mathlib.Core.Option.{Option, none, some}
 use Prim.Native.Nat.{ℕ, _<_, _-_}
@@ -19,7 +20,7 @@ use Rattle.model.specs.State.{isActive, size, vcpuAt}
 use Rattle.model.specs.Doorbell.{Part, isLevel, admitted}
 use Rattle.model.specs.Registers.{endedAt, ended}
 use Rattle.model.specs.Ipi.{icrItem, icrTarget, hits, reach}
-use Rattle.model.specs.Items.{mark}
+use Rattle.model.specs.Items.{InRange, pendingIn, pending, mark}
 use Rattle.model.specs.Requests.{requestOf, forget, leaveIf, serve}
 use Rattle.model.specs.Events.{Act, notice, call, entry, nonDelivery, handBack, at, Bytes, Event, noticed, Reply, gives}
 use Rattle.model.specs.Events.{sends, callEffect, effect, effectOf, store, deliver, concluded, next}
@@ -28,64 +29,94 @@ use Rattle.model.specs.Demand2.{isRequest}
 use Rattle.vector_set.specs.Sets.{has, highest}
 use Rattle.vector_set.proofs.Laws.{clash, has-collect}
 use Rattle.model.proofs.Stored.{on-put, by-reach, vcpuAt-count, vcpuAt-sent, by-verdict, known-of, servedIn}
-use Rattle.model.proofs.ItemLaws.{rest-mark}
+use Rattle.model.proofs.ItemLaws.{pending-mark, rest-mark}
+
+-- ---- what a guest call keeps: whatever is said of the NMI mark, P and PL, and stays true where an item becomes pending
+abbrev Said : Type 1
+Said = Bool → List ℕ → List ℕ → Type 0
+
+abbrev On : Said → Vcpu → Type 0
+On Q v = Q (v .nmi) (v .irr) (v .«irr_level»)
+
+abbrev Marks : Said → Type 0
+Marks Q = (y : Item) (v : Vcpu) → On Q v → On Q (mark y v)
+
+kept-leave : (Q : Said) (b : Bool) (v : Vcpu) → On Q v → On Q (leaveIf b v)
+kept-leave Q true v h = h
+kept-leave Q false v h = h
+
+kept-ended : (Q : Said) (o : Option ℕ) (v : Vcpu) → On Q v → On Q (endedAt o v)
+unfolding endedAt
+kept-ended Q none v h = h
+kept-ended Q (some x) v h = h
+
+kept-serve : (Q : Said) → Marks Q → (o : Local) (i k : ℕ) (v : Vcpu) → On Q v → On Q (serve o i k v .vcpu)
+unfolding serve ended
+kept-serve Q s local.Features i k v h = h
+kept-serve Q s local.Leave i k v h = kept-leave Q (eqb k 0) v h
+kept-serve Q s local.Release i k v h = kept-leave Q (eqb (k - 1) 0) v h
+kept-serve Q s local.Register i k v h = h
+kept-serve Q s (local.Allow x) i k v h = h
+kept-serve Q s (local.Disallow x) i k v h = h
+kept-serve Q s (local.Read r) i k v h = h
+kept-serve Q s (local.SetTpr x) i k v h = h
+kept-serve Q s local.Eoi i k v h = kept-ended Q (highest (v .isr)) v h
+kept-serve Q s (local.SelfIpi x) i k v h = s (item.Vector x) v h
+
+kept-call : (Q : Said) → Marks Q → (r : Request) (i k : ℕ) (v : Vcpu) → On Q v → On Q (callEffect r i k v .vcpu)
+unfolding callEffect
+kept-call Q s (request.Local o) i k v h = kept-serve Q s o i k (forget v) h
+kept-call Q s (request.Icr x) i k v h = h
+kept-call Q s (request.Refused c) i k v h = h
+
+kept-delivered : (Q : Said) → Marks Q → (r : Reply) (i : ℕ) (m : Module) (j : ℕ) → On Q (vcpuAt m j) → On Q (vcpuAt (deliver r i m) j)
+kept-delivered Q s (gives r) i m j h = h
+kept-delivered Q s (sends y) i m j h =
+    subst (On Q) (sym (vcpuAt-sent (icrItem y) (icrTarget y) i m j))
+    (by-reach (icrItem y) (icrTarget y) i (size m) j (vcpuAt m j) (On Q) (s (icrItem y) (vcpuAt m j) h) h)
+
+calls-keep : (Q : Said) → Marks Q → (m : Module) (i op c x j : ℕ) → On Q (vcpuAt m j) → On Q (vcpuAt (next m (at i (call op c x))) j)
+unfolding concluded effect
+calls-keep Q s m i op c x j h =
+    let e = at i (call op c x) in
+    by-verdict m e (λ o. On Q (vcpuAt (o .after) j)) (λ r p. h)
+    (λ p. kept-delivered Q s (effectOf m e .reply) i _ j
+    (rw (vcpuAt-count)
+    (on-put m i (effectOf m e .vcpu) j (known-of m i (call op c x) p .there) (λ _ _ u v. On Q u → On Q v)
+    (kept-call Q s (requestOf op c x) i (m .registrations) (vcpuAt m i)) (λ q. q) h)))
+
+-- PL is the set p
+abbrev LevelIs : List ℕ → Said
+LevelIs p nmi irr pl = pl ≡ p
+
+level-marks : (p : List ℕ) → Marks (LevelIs p)
+level-marks p y v h = ap (λ (u : Vcpu). u .«irr_level») (rest-mark y v) ∙ h
+
+pub calls-keep-level : (m : Module) (i op c x j : ℕ) → vcpuAt (next m (at i (call op c x))) j .«irr_level» ≡ vcpuAt m j .«irr_level»
+calls-keep-level m i op c x j = calls-keep (LevelIs (vcpuAt m j .«irr_level»)) (level-marks (vcpuAt m j .«irr_level»)) m i op c x j refl
+
+-- the item y is pending
+abbrev IsPending : Item → Said
+IsPending y nmi irr pl = pendingIn y nmi irr ≡ true
+
+pending-marks : (y : Item) → InRange y → Marks (IsPending y)
+pending-marks y r z v h = pending-mark y r z v ∙ rw (h, or-true)
+
+pub calls-keep-pending : (m : Module) (i op c x j : ℕ) (y : Item) → InRange y → pending y (vcpuAt m j) ≡ true
+    → pending y (vcpuAt (next m (at i (call op c x))) j) ≡ true
+calls-keep-pending m i op c x j y r h = calls-keep (IsPending y) (pending-marks y r) m i op c x j h
 
 -- ---- a request takes no vector out of PL
-level-mark : (y : Item) (v : Vcpu) → mark y v .«irr_level» ≡ v .«irr_level»
-level-mark y v = ap (λ (u : Vcpu). u .«irr_level») (rest-mark y v)
-
-level-reach : (y : Item) (t : Target) (i n k : ℕ) (v : Vcpu) → reach y t i n k v .«irr_level» ≡ v .«irr_level»
-level-reach y t i n k v = by-reach y t i n k v (λ u. u .«irr_level» ≡ v .«irr_level») (level-mark y v) refl
-
-level-leave : (b : Bool) (v : Vcpu) → leaveIf b v .«irr_level» ≡ v .«irr_level»
-level-leave true v = refl
-level-leave false v = refl
-
-level-ended : (o : Option ℕ) (v : Vcpu) → endedAt o v .«irr_level» ≡ v .«irr_level»
-unfolding endedAt
-level-ended none v = refl
-level-ended (some x) v = refl
-
-level-serve : (o : Local) (i k : ℕ) (v : Vcpu) → serve o i k v .vcpu .«irr_level» ≡ v .«irr_level»
-unfolding serve ended
-level-serve local.Features i k v = refl
-level-serve local.Leave i k v = level-leave (eqb k 0) v
-level-serve local.Release i k v = level-leave (eqb (k - 1) 0) v
-level-serve local.Register i k v = refl
-level-serve (local.Allow x) i k v = refl
-level-serve (local.Disallow x) i k v = refl
-level-serve (local.Read r) i k v = refl
-level-serve (local.SetTpr x) i k v = refl
-level-serve local.Eoi i k v = level-ended (highest (v .isr)) v
-level-serve (local.SelfIpi x) i k v = level-mark (item.Vector x) v
-
-level-call : (r : Request) (i k : ℕ) (v : Vcpu) → callEffect r i k v .vcpu .«irr_level» ≡ v .«irr_level»
-unfolding callEffect
-level-call (request.Local o) i k v = level-serve o i k (forget v)
-level-call (request.Icr x) i k v = refl
-level-call (request.Refused c) i k v = refl
-
-level-delivered : (r : Reply) (i : ℕ) (m : Module) (j : ℕ) → vcpuAt (deliver r i m) j .«irr_level» ≡ vcpuAt m j .«irr_level»
-level-delivered (gives r) i m j = refl
-level-delivered (sends y) i m j =
-    ap (λ (v : Vcpu). v .«irr_level») (vcpuAt-sent (icrItem y) (icrTarget y) i m j)
-    ∙ level-reach (icrItem y) (icrTarget y) i (size m) j (vcpuAt m j)
-
--- ---- a guest call leaves PL as it is
-pub calls-keep-level : (m : Module) (i op c x j : ℕ) → vcpuAt (next m (at i (call op c x))) j .«irr_level» ≡ vcpuAt m j .«irr_level»
-unfolding concluded effect
-calls-keep-level m i op c x j =
-    let e = at i (call op c x) in
-    by-verdict m e (λ o. vcpuAt (o .after) j .«irr_level» ≡ vcpuAt m j .«irr_level») (λ r p. refl)
-    (λ p. level-delivered (effectOf m e .reply) i _ j
-    ∙ rw (vcpuAt-count)
-    (on-put m i (effectOf m e .vcpu) j (known-of m i (call op c x) p .there) (λ _ _ u v. v .«irr_level» ≡ u .«irr_level»)
-    (level-call (requestOf op c x) i (m .registrations) (vcpuAt m i)) refl))
-
--- ---- and so does a notice, but for what it adds
 -- x stays in PL from the record u to v
 abbrev Stays : ℕ → Vcpu → Vcpu → Type 0
 Stays x u v = has (u .«irr_level») x ≡ true → has (v .«irr_level») x ≡ true
+
+-- x is in PL
+abbrev InLevel : ℕ → Said
+InLevel x nmi irr pl = has pl x ≡ true
+
+in-level-marks : (x : ℕ) → Marks (InLevel x)
+in-level-marks x y v h = ap (λ (u : Vcpu). has (u .«irr_level») x) (rest-mark y v) ∙ h
 
 stays-noticed : (x : ℕ) → x < 256 → (a : Part) (v : Vcpu) → Stays x v (noticed a v)
 unfolding noticed
@@ -94,19 +125,16 @@ stays-noticed x l a v h = has-collect (λ y. has (v .«irr_level») y || isLevel
 stays-effect : (x : ℕ) → x < 256 → (l i k : ℕ) (v : Vcpu) (a : Act Bytes) → isRequest a ≡ true → Stays x v (effect l i k v a .vcpu)
 unfolding effect
 stays-effect x b l i k v (notice p) q = stays-noticed x b (admitted l (v .allowed) p) v
-stays-effect x b l i k v (call op c y) q = λ h. ap (λ (s : List ℕ). has s x) (level-call (requestOf op c y) i k v) ∙ h
+stays-effect x b l i k v (call op c y) q = kept-call (InLevel x) (in-level-marks x) (requestOf op c y) i k v
 stays-effect x b l i k v (entry iF sh bl) q = clash (cc)
 stays-effect x b l i k v nonDelivery q = clash (cc)
 stays-effect x b l i k v (handBack p iF sh) q = clash (cc)
-
-stays-delivered : (x : ℕ) (r : Reply) (i : ℕ) (m : Module) (j : ℕ) → Stays x (vcpuAt m j) (vcpuAt (deliver r i m) j)
-stays-delivered x r i m j h = ap (λ (s : List ℕ). has s x) (level-delivered r i m j) ∙ h
 
 pub keeps-level : (m : Module) (e : Event) (j x : ℕ) → x < 256 → isRequest (e .act) ≡ true → Stays x (vcpuAt m j) (vcpuAt (next m e) j)
 unfolding concluded
 keeps-level m e j x b q =
     by-verdict m e (λ o. Stays x (vcpuAt m j) (vcpuAt (o .after) j)) (λ c p h. h)
-    (λ p h. stays-delivered x (effectOf m e .reply) (e .vcpu) _ j
+    (λ p h. kept-delivered (InLevel x) (in-level-marks x) (effectOf m e .reply) (e .vcpu) _ j
     (rw (vcpuAt-count)
     (on-put m (e .vcpu) (effectOf m e .vcpu) j (known-of m (e .vcpu) (e .act) p .there) (λ _ _ u v. Stays x u v)
     (stays-effect x b (m .vmpl) (e .vcpu) (m .registrations) (vcpuAt m (e .vcpu)) (e .act) q) (λ r. r) h)))

@@ -1,4 +1,4 @@
--- Demand 2: the gate is what kernels expect (13.6 to 13.18, 13.35 to 13.40). That each event's result, module and page are those of
+-- Demand 2: the gate is what kernels expect (13.6 to 13.18, 13.35 to 13.41). That each event's result, module and page are those of
 -- `step` and `start` is said by the functions' contracts; here is what else is claimed of them.
 -- Assumes nothing.
 use mathlib.Core.Path.{_≡_}
@@ -7,12 +7,13 @@ use mathlib.Core.List.{List}
 use Prim.Native.Nat.{ℕ, _^_, _<_}
 use lib.Bits.{bitOr}
 use lib.Dec.{eqb}
+use Rattle.model.specs.declared.Item.{Item}
 use Rattle.model.specs.declared.InFlight.the-variants.{Nothing}
 use Rattle.model.specs.declared.Vcpu.{Vcpu}
 use Rattle.model.specs.declared.Module.{Module}
 use Rattle.model.specs.State.{isActive, vcpuAt, start, withVcpu, withIcr, withFlight}
 use Rattle.model.specs.Codes.{done}
-use Rattle.model.specs.Items.{unmarkAll}
+use Rattle.model.specs.Items.{InRange, pending, unmarkAll}
 use Rattle.model.specs.Doorbell.{mapBits, announcingBit, Part, admitted}
 use Rattle.model.specs.Registers.{within}
 use Rattle.model.specs.Ipi.{icrLegal, icrItem, icrTarget}
@@ -86,6 +87,9 @@ pub record Demand2 : Type 0 where
       → has (vcpuAt m j .«irr_level») x ≡ true → has (vcpuAt (next m e) j .«irr_level») x ≡ true
   -- of every module value: a guest call, an IPI among them, leaves PL as it is, on every vCPU (13.39)
   pub callsKeepLevel : (m : Module) (i op c x j : ℕ) → vcpuAt (next m (at i (call op c x))) j .«irr_level» ≡ vcpuAt m j .«irr_level»
+  -- of every module value: nor does it take away what is pending, on any vCPU (13.41)
+  pub callsKeepPending : (m : Module) (i op c x j : ℕ) (y : Item) → InRange y → pending y (vcpuAt m j) ≡ true
+      → pending y (vcpuAt (next m (at i (call op c x))) j) ≡ true
   -- of every module value: the record of a vCPU that is not active changes by its own hand-back alone
   pub keepsInactive : (m : Module) (e : Event) (j : ℕ) → isActive (vcpuAt m j .phase) ≡ false → (isHandBack (e .act) && eqb j (e .vcpu)) ≡ false
       → vcpuAt (next m e) j ≡ vcpuAt m j
@@ -99,6 +103,6 @@ pub record Demand2 : Type 0 where
   -- of every module value: a read right after an accepted write gives what was written (13.37)
   pub icrReads : (m : Module) (i x z r : ℕ) → step m (writesIcr i x) .result ≡ done r
       → step (next m (writesIcr i x)) (at i (call 2 0x830 z)) .result ≡ done x
-  -- of every module value: what is pending apart, an accepted write changes the caller's ICR and what is in flight there, and nothing at another vCPU (13.40)
+  -- of every module value: P and the NMI mark apart, an accepted write changes the caller's ICR and what is in flight there, and no other record (13.40)
   pub icrTouches : (m : Module) (i x j r : ℕ) → step m (writesIcr i x) .result ≡ done r
       → unmarkAll (vcpuAt (next m (writesIcr i x)) j) ≡ unmarkAll (cond (eqb j i) (withIcr x (withFlight Nothing (vcpuAt m j))) (vcpuAt m j))

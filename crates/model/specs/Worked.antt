@@ -251,6 +251,7 @@ further =
     ∷ arrives (item.Vector 0x1F) 0x10000401F
     ∷ arrives item.Nmi 0x200000C1E
     ∷ gives 2 (resultOn fresh2 (icr 0xC4041))
+    ∷ gives 3 (resultOn fresh2 (icr 0xFFFFFFFF00004400))
     ∷ reachesOf18 0 0x2000004041
     ∷ reachesOf18 0 0xFF00004041
     -- 14.49: an ICR write forgets what an entry presented

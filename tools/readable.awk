@@ -86,8 +86,8 @@ function reached(mask,    k, from, text) {
 function written(n, value) {
     if (n == 2056) return "TPR written"
     if (n == 2059) return value == "0x0" ? "EOI, none owed to the host" : "EOI, and one owed to the host for " value
-    if (n == 2111) return "IPI to itself"
-    return value == "0x0" ? "IPI that reaches nobody" : "IPI that reaches " reached(number(value))
+    if (n == 2111) return value == "0x0" ? "IPI to itself, was pending" : "IPI to itself"
+    return value == "0x0" ? "IPI, new to nobody" : "IPI, new to " reached(number(value))
 }
 
 function permitted(ecx) {
@@ -124,8 +124,11 @@ function page(before, after) {
     return after == "" ? "page now all 0" : "page now" after
 }
 
-function admitted(count) {
-    return (count == 0 ? "nothing" : count) " admitted"
+function admitted(new, merged) {
+    if (new + merged == 0) return "nothing admitted"
+    if (merged == 0) return new " new"
+    if (new == 0) return merged " that " (merged == 1 ? "was" : "were") " pending"
+    return new " new, " merged " that " (merged == 1 ? "was" : "were") " pending"
 }
 
 function handed(value) {
@@ -163,12 +166,12 @@ function answer_of(given, words, told, count,    text) {
     if (told[1] == "error") return "unreadable (line " told[3] ")"
     if (told[2] == "refused") text = refused(told[3])
     else if (told[1] == "start") text = "ok"
-    else if (told[1] == "notice") text = admitted(number(told[3]))
+    else if (told[1] == "notice") text = admitted(number(told[3]), number(told[4]))
     else if (told[1] == "call") text = called(number(given[3]), number(given[4]), told[3])
     else if (told[1] == "entry") text = told[2] == "nmi" ? "NMI" : told[2] (told[2] == "window" ? " for " : " ") told[3]
     else if (told[1] == "nondelivery") text = "pending again"
     else text = handed(number(told[3]))
-    if (told[1] == "notice") text = text "; " page(bytes_of(given, 4, words), bytes_of(told, 5, count))
+    if (told[1] == "notice") text = text "; " page(bytes_of(given, 4, words), bytes_of(told, told[2] == "ok" ? 6 : 5, count))
     if (told[1] == "handback") text = text "; " page(bytes_of(given, 6, words), bytes_of(told, 5, count))
     sub(/ +$/, "", text)
     return text

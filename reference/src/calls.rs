@@ -148,19 +148,18 @@ fn eoi(record: &mut Record) -> u64 {
     }
 }
 
-/// 7.16, 7.17, 7.20
-fn send(m: &mut Module, item: Item, named: impl Fn(u32) -> bool) -> u64 {
-    let mut reached = 0;
+/// 7.16, 7.17, 7.20: every active target gets the item, the answer names those that did not have it.
+fn send(m: &mut Module, item: Item, target: impl Fn(u32) -> bool) -> u64 {
+    let mut named = 0;
     for id in 0..m.n {
         let record = m.record_mut(id);
-        if !named(id) || record.phase != Phase::Active {
+        if !target(id) || record.phase != Phase::Active {
             continue;
         }
-        match item {
-            Item::Nmi => record.nmi = true,
-            Item::Vector(v) => record.pending.put(v),
+        if !record.has_pending(item) {
+            named += 2u64.pow(id);
         }
-        reached += 2u64.pow(id);
+        record.add_pending(item);
     }
-    reached
+    named
 }

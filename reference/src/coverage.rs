@@ -6,10 +6,13 @@ use std::io::{BufRead, Result};
 use crate::lines::Lines;
 
 /// The lines that can be printed (`docs/REPLAY.md`, section 11), numbers left out but for codes.
-const EXPECTED: [&str; 31] = [
+const EXPECTED: [&str; 34] = [
     "start ok",
     "start refused 0x5",
-    "notice ok",
+    "notice ok, no item",
+    "notice ok, new",
+    "notice ok, merged",
+    "notice ok, new and merged",
     "notice refused 0x1",
     "notice refused 0x80000001",
     "notice refused 0x2",
@@ -50,8 +53,21 @@ fn kind(line: &str) -> String {
     match words.as_slice() {
         ["module", ..] | ["vcpu", ..] => words[0].to_string(),
         [event, "refused", code, ..] => format!("{event} refused {code}"),
+        ["notice", "ok", new, merged, "page", ..] => {
+            format!("notice ok, {}", admission(new, merged))
+        }
         [event, answer, ..] => format!("{event} {answer}"),
         _ => line.to_string(),
+    }
+}
+
+/// Which of a notice's two numbers are above 0 (4.29, 4.37); with `merged` alone it was superfluous.
+fn admission(new: &str, merged: &str) -> &'static str {
+    match (new, merged) {
+        ("0x0", "0x0") => "no item",
+        (_, "0x0") => "new",
+        ("0x0", _) => "merged",
+        _ => "new and merged",
     }
 }
 
@@ -68,10 +84,14 @@ impl Coverage {
         Ok(Coverage { counts })
     }
 
+    pub fn count(&self, kind: &str) -> u64 {
+        self.counts.get(kind).copied().unwrap_or(0)
+    }
+
     pub fn missing(&self) -> Vec<&'static str> {
         EXPECTED
             .into_iter()
-            .filter(|&kind| !self.counts.contains_key(kind))
+            .filter(|kind| self.count(kind) == 0)
             .collect()
     }
 
@@ -90,18 +110,21 @@ impl Coverage {
     }
 
     pub fn report(&self) -> String {
-        let mut text = String::new();
-        for kind in EXPECTED {
-            let count = self.counts.get(kind).copied().unwrap_or(0);
-            text += &format!("{count:>9} {kind}\n");
-        }
-        text += &listed("missing", &self.missing());
-        text += &listed("not among the answers", &self.unexpected());
-        text
+        report(&EXPECTED, &self.counts)
+            + &listed("missing", &self.missing())
+            + &listed("not among the answers", &self.unexpected())
     }
 }
 
-fn listed(title: &str, kinds: &[&str]) -> String {
+pub fn report(kinds: &[&str], counts: &BTreeMap<String, u64>) -> String {
+    let line = |&kind: &&str| {
+        let count = counts.get(kind).copied().unwrap_or(0);
+        format!("{count:>9} {kind}\n")
+    };
+    kinds.iter().map(line).collect()
+}
+
+pub fn listed(title: &str, kinds: &[&str]) -> String {
     if kinds.is_empty() {
         format!("{title}: none\n")
     } else {

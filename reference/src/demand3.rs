@@ -2,14 +2,16 @@
 //!
 //! (a) Isolation (13.20, 13.21), tried on a list and its twin.
 //! (b) The bound (13.26, 13.27). A list cut short is a list too, so it is checked at each event.
+//!
+//! With both goes what the answers say of pending items (13.25, 13.42 to 13.46), see `answers`.
 
+use crate::answers;
 use crate::book::{Book, Entry};
 use crate::events::{Answer, Event, Shown};
 use crate::generate;
-use crate::icr;
+use crate::ipi::Ipi;
 use crate::page::{admitted, Admitted};
 use crate::random::Random;
-use crate::registers::{ICR, SELF_IPI};
 use crate::set::VectorSet;
 use crate::state::{start, Item, Module};
 use crate::twin;
@@ -109,17 +111,6 @@ impl Counts {
         self.accounts[vcpu as usize].rest[place(item)] += 1;
     }
 
-    fn gain_part(&mut self, vcpu: u32, part: &Admitted) {
-        let mut items: Vec<Item> = part.edge.members().into_iter().map(Item::Vector).collect();
-        items.extend(part.level.map(Item::Vector));
-        if part.nmi {
-            items.push(Item::Nmi);
-        }
-        for item in items {
-            self.gain(vcpu, item);
-        }
-    }
-
     fn present(&mut self, vcpu: u32, shown: Shown) -> Result<(), String> {
         let account = &mut self.accounts[vcpu as usize];
         account.latest = None;
@@ -144,14 +135,10 @@ impl Counts {
         Ok(())
     }
 
-    /// 12.21
-    fn send(&mut self, book: &Book, vcpu: u32, register: u32, value: u64) {
-        for id in (0..book.n).filter(|&id| book.active(id)) {
-            match register {
-                ICR if icr::names(value, vcpu, id) => self.gain(id, icr::item(value)),
-                SELF_IPI if id == vcpu => self.gain(id, Item::Vector(value as usize)),
-                _ => {}
-            }
+    /// 12.21: every target that is active in the book, whether the answer names it or not.
+    fn send(&mut self, book: &Book, ipi: &Ipi) {
+        for id in (0..book.n).filter(|&id| book.active(id) && ipi.targets(id)) {
+            self.gain(id, ipi.item);
         }
     }
 
@@ -159,21 +146,14 @@ impl Counts {
     fn count(&mut self, book: &Book, vmpl: u32, e: &Event, a: &Answer) -> Result<(), String> {
         match (e, a) {
             (Event::Notice { vcpu, page }, _) => {
-                let part = admitted_by_book(book, vmpl, *vcpu, page);
-                if part != Admitted::nothing() {
-                    self.gain_part(*vcpu, &part);
+                for item in admitted_by_book(book, vmpl, *vcpu, page).items() {
+                    self.gain(*vcpu, item);
                 }
             }
-            (
-                Event::Call {
-                    vcpu,
-                    call: 3,
-                    ecx,
-                    rdx,
-                },
-                Answer::Call(Ok(_)),
-            ) => {
-                self.send(book, *vcpu, *ecx, *rdx);
+            (Event::Call { .. }, Answer::Call(Ok(_))) => {
+                if let Some(ipi) = Ipi::of(e) {
+                    self.send(book, &ipi);
+                }
             }
             (Event::Entry { vcpu, .. }, Answer::Entry(Ok(shown))) => self.present(*vcpu, *shown)?,
             (Event::NonDelivery { vcpu }, Answer::NonDelivery(Ok(_))) => self.give_back(*vcpu)?,
@@ -183,8 +163,8 @@ impl Counts {
     }
 }
 
-/// Part (b), and that book and module agree when the list is over (13.22).
-pub fn bounded(list: &[Event], played: &Played) -> Result<(), String> {
+/// Part (b) at every event of a list; gives the counts and the book after it.
+fn counted(list: &[Event], answers: &[Answer]) -> Result<(Counts, Book), String> {
     let (mut book, vmpl) = opened(list);
     let none = Account {
         rest: vec![0; 257],
@@ -193,7 +173,7 @@ pub fn bounded(list: &[Event], played: &Played) -> Result<(), String> {
     let mut counts = Counts {
         accounts: vec![none; book.n as usize],
     };
-    for (index, (event, answer)) in list.iter().zip(&played.answers).enumerate() {
+    for (index, (event, answer)) in list.iter().zip(answers).enumerate() {
         counts
             .count(&book, vmpl, event, answer)
             .map_err(|reason| format!("event {index}: {reason}"))?;
@@ -201,6 +181,18 @@ pub fn bounded(list: &[Event], played: &Played) -> Result<(), String> {
             book.enter(&entry);
         }
     }
+    Ok((counts, book))
+}
+
+/// How many more times the bound lets this item be presented there after the list.
+pub fn remaining(list: &[Event], played: &Played, vcpu: u32, item: Item) -> Result<i64, String> {
+    let (counts, _) = counted(list, &played.answers)?;
+    Ok(counts.accounts[vcpu as usize].rest[place(item)])
+}
+
+/// Part (b), and that book and module agree when the list is over (13.22).
+pub fn bounded(list: &[Event], played: &Played) -> Result<(), String> {
+    let (_, book) = counted(list, &played.answers)?;
     if book == Book::of(&played.module) {
         Ok(())
     } else {
@@ -227,13 +219,16 @@ pub fn alike(first: &Played, second: &Played) -> Result<(), String> {
     Ok(())
 }
 
-/// Both parts for one list; says how many notice pages the twin has changed.
+/// Both parts for one list, and what its answers say of pending items; says how many notice pages the
+/// twin has changed.
 pub fn check_list(list: &[Event], random: &mut Random, gate: Gate) -> Result<usize, String> {
     let (second, changed) = twin::twin(random, list);
     let (one, two) = (played(list, gate), played(&second, gate));
     alike(&one, &two)?;
     bounded(list, &one)?;
     bounded(&second, &two)?;
+    answers::hold(list, gate)?;
+    answers::hold(&second, gate)?;
     Ok(changed)
 }
 

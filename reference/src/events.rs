@@ -48,10 +48,17 @@ pub enum Shown {
     Window(usize),
 }
 
+/// How many admitted items became pending (4.29), and how many were pending before (4.37).
+#[derive(Clone, Copy, PartialEq, Eq, Debug)]
+pub struct Admission {
+    pub new: u32,
+    pub merged: u32,
+}
+
 #[derive(Clone, Copy, PartialEq, Eq, Debug)]
 pub enum Answer {
     Start(Result<(), Code>),
-    Notice(Result<u32, Code>),
+    Notice(Result<Admission, Code>),
     Call(Result<u64, Code>),
     Entry(Result<Shown, Code>),
     NonDelivery(Result<u32, Code>),
@@ -90,25 +97,35 @@ pub fn step(m: &mut Module, event: &mut Event) -> Answer {
 }
 
 /// 4.2, 4.6, 4.25 to 4.31
-pub fn notice(m: &mut Module, vcpu: u32, page: &mut [u8]) -> Result<u32, Code> {
+pub fn notice(m: &mut Module, vcpu: u32, page: &mut [u8]) -> Result<Admission, Code> {
     m.active(vcpu)?;
     page::long_enough(page)?;
     if !page::announces(page, m.vmpl) {
-        return Ok(0);
+        return Ok(Admission { new: 0, merged: 0 });
     }
     let part = page::admitted(page, m.vmpl, &m.record(vcpu).allowed);
     page::clear_notice(page, m.vmpl);
 
     let record = m.record_mut(vcpu);
-    record.pending = record.pending.joined(&part.edge);
+    let admission = admit(record, &part.items());
     if let Some(v) = part.level {
-        record.pending.put(v);
         record.pending_level.put(v);
     }
-    if part.nmi {
-        record.nmi = true;
+    Ok(admission)
+}
+
+/// 4.25, 4.28, 4.29, 4.37. No item stands twice among these, so none finds itself pending.
+fn admit(record: &mut Record, items: &[Item]) -> Admission {
+    let mut admission = Admission { new: 0, merged: 0 };
+    for &item in items {
+        if record.has_pending(item) {
+            admission.merged += 1;
+        } else {
+            admission.new += 1;
+        }
+        record.add_pending(item);
     }
-    Ok(part.number())
+    admission
 }
 
 /// 8.2, 8.3, 8.6 to 8.14

@@ -1,7 +1,9 @@
 //! A second implementation of the gate, in plain Rust, written from document 01 (the scope paper)
-//! alone; it shares no code with the gate. It is kept naive so that it can be read beside
-//! `docs/SPECIFICATION.md`: a number such as 4.17 in a comment is a clause there.
+//! alone; it follows the requests that came later (02) and shares no code with the gate. It is kept
+//! naive so that it can be read beside `docs/SPECIFICATION.md`: a number such as 4.17 in a comment is
+//! a clause there.
 
+pub mod answers;
 pub mod book;
 pub mod calls;
 pub mod codes;
@@ -10,7 +12,9 @@ pub mod demand3;
 pub mod events;
 pub mod generate;
 pub mod icr;
+pub mod ipi;
 pub mod lines;
+pub mod merging;
 pub mod odd_lines;
 pub mod page;
 pub mod play;

@@ -5,12 +5,14 @@ use reference::coverage::Coverage;
 use reference::demand3;
 use reference::events::step;
 use reference::generate::generate;
+use reference::merging::Merging;
 use reference::play::play;
 
 const USAGE: &str = "usage: reference play < TRACE > OUTPUT
        reference generate SEED COUNT > TRACE
        reference check SEED COUNT
-       reference coverage < OUTPUT";
+       reference coverage < OUTPUT
+       reference merging < TRACE";
 
 fn main() -> ExitCode {
     let arguments: Vec<String> = std::env::args().skip(1).collect();
@@ -37,6 +39,11 @@ fn run(arguments: &[String]) -> Result<bool> {
             let coverage = Coverage::of(stdin().lock())?;
             print!("{}", coverage.report());
             Ok(coverage.complete())
+        }
+        ["merging"] => {
+            let merging = Merging::of(stdin().lock())?;
+            print!("{}", merging.report());
+            Ok(merging.missing().is_empty())
         }
         _ => Err(Error::new(ErrorKind::InvalidInput, USAGE)),
     }

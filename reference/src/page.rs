@@ -3,7 +3,7 @@
 
 use crate::codes::{Code, SHORT_PAGE};
 use crate::set::VectorSet;
-use crate::state::Record;
+use crate::state::{Item, Record};
 
 const INJECTION_INFO: usize = 2;
 const NMI: usize = 8;
@@ -65,11 +65,14 @@ impl Admitted {
         }
     }
 
-    /// 4.29
-    pub fn number(&self) -> u32 {
-        let nmi = if self.nmi { 1 } else { 0 };
-        let level = if self.level.is_some() { 1 } else { 0 };
-        nmi + level + self.edge.members().len() as u32
+    /// Each item once (4.24).
+    pub fn items(&self) -> Vec<Item> {
+        let mut items: Vec<Item> = self.edge.members().into_iter().map(Item::Vector).collect();
+        items.extend(self.level.map(Item::Vector));
+        if self.nmi {
+            items.push(Item::Nmi);
+        }
+        items
     }
 }
 

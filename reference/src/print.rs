@@ -3,7 +3,7 @@
 use std::fmt::{Display, LowerHex, Write};
 
 use crate::codes::Code;
-use crate::events::{Answer, Event, Shown};
+use crate::events::{Admission, Answer, Event, Shown};
 use crate::set::VectorSet;
 use crate::state::{Item, Module, Phase, Record};
 
@@ -13,7 +13,7 @@ pub fn answer(event: &Event, answer: &Answer) -> String {
         (Answer::Start(Ok(())), _) => "start ok".to_string(),
         (Answer::Start(Err(code)), _) => format!("start refused {code:#x}"),
         (Answer::Notice(a), Event::Notice { page, .. }) => {
-            format!("notice {} page{}", outcome(a), bytes(page))
+            format!("notice {} page{}", admission(a), bytes(page))
         }
         (Answer::Call(a), _) => format!("call {}", outcome(a)),
         (Answer::Entry(a), _) => format!("entry {}", shown(a)),
@@ -28,6 +28,14 @@ pub fn answer(event: &Event, answer: &Answer) -> String {
 fn outcome<T: LowerHex>(answer: &Result<T, Code>) -> String {
     match answer {
         Ok(value) => format!("ok {value:#x}"),
+        Err(code) => format!("refused {code:#x}"),
+    }
+}
+
+/// The items that became pending, then those that were pending before.
+fn admission(answer: &Result<Admission, Code>) -> String {
+    match answer {
+        Ok(Admission { new, merged }) => format!("ok {new:#x} {merged:#x}"),
         Err(code) => format!("refused {code:#x}"),
     }
 }

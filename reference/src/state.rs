@@ -17,6 +17,11 @@ pub enum Item {
     Vector(usize),
 }
 
+/// Every item there is: the NMI and the vectors 0 to 255.
+pub fn items() -> impl Iterator<Item = Item> {
+    [Item::Nmi].into_iter().chain((0..256).map(Item::Vector))
+}
+
 /// 2.3 to 2.11
 #[derive(Clone, PartialEq, Eq, Debug)]
 pub struct Record {
@@ -55,6 +60,22 @@ impl Record {
             icr: 0,
             phase: Phase::Active,
             flight: None,
+        }
+    }
+
+    /// 2.5, 2.8. The IRR and the NMI mark alone are asked, the level-sensitive part is not.
+    pub fn has_pending(&self, item: Item) -> bool {
+        match item {
+            Item::Nmi => self.nmi,
+            Item::Vector(v) => self.pending.has(v),
+        }
+    }
+
+    /// 4.25, 4.28, 7.17
+    pub fn add_pending(&mut self, item: Item) {
+        match item {
+            Item::Nmi => self.nmi = true,
+            Item::Vector(v) => self.pending.put(v),
         }
     }
 }

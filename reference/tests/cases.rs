@@ -15,7 +15,7 @@ use reference::state::{Item, Phase};
 fn one_allowed_vector_is_admitted() {
     let mut m = allowing(&[0x41]);
     let mut p = page(&[(3, 1), (64, 0x41)]);
-    assert_eq!(notice(&mut m, 0, &mut p), Ok(1));
+    assert_eq!(notice(&mut m, 0, &mut p), counted(1, 0));
     assert_eq!(m.records[0].pending, set(&[0x41]));
     assert_eq!(p, page(&[]));
 }
@@ -25,7 +25,7 @@ fn one_allowed_vector_is_admitted() {
 fn a_vector_not_allowed_is_dropped() {
     let mut m = allowing(&[]);
     let mut p = page(&[(3, 1), (64, 0x41)]);
-    assert_eq!(notice(&mut m, 0, &mut p), Ok(0));
+    assert_eq!(notice(&mut m, 0, &mut p), counted(0, 0));
     assert_eq!(m, fresh(2, 1));
     assert_eq!(p, page(&[]));
 }
@@ -35,7 +35,7 @@ fn a_vector_not_allowed_is_dropped() {
 fn a_page_that_announces_nothing_stays() {
     let mut m = allowing(&[0x41]);
     let mut p = page(&[(64, 0x41)]);
-    assert_eq!(notice(&mut m, 0, &mut p), Ok(0));
+    assert_eq!(notice(&mut m, 0, &mut p), counted(0, 0));
     assert_eq!(m, allowing(&[0x41]));
     assert_eq!(p, page(&[(64, 0x41)]));
 }
@@ -46,7 +46,7 @@ fn many_passes_over_the_single_vector() {
     let mut m = fresh(2, 1);
     m.records[0].allowed = VectorSet::all();
     let mut p = page(&[(3, 1), (64, 0x50), (65, 0x40), (72, 0x02)]);
-    assert_eq!(notice(&mut m, 0, &mut p), Ok(1));
+    assert_eq!(notice(&mut m, 0, &mut p), counted(1, 0));
     assert_eq!(m.records[0].pending, set(&[0x41]));
     assert_eq!(p, page(&[]));
 }
@@ -56,7 +56,7 @@ fn many_passes_over_the_single_vector() {
 fn a_level_sensitive_vector_is_named_at_its_eoi() {
     let mut m = allowing(&[0x61]);
     let mut p = page(&[(3, 1), (64, 0x61), (65, 0x04)]);
-    assert_eq!(notice(&mut m, 0, &mut p), Ok(1));
+    assert_eq!(notice(&mut m, 0, &mut p), counted(1, 0));
     assert_eq!(read(&mut m, 0, 0x81B), Ok(2));
     assert_eq!(
         entry(&mut m, 0, true, false, false),
@@ -73,7 +73,7 @@ fn vector_30_is_not_admitted_and_cleared() {
     let mut m = fresh(2, 1);
     m.records[0].allowed = VectorSet::all();
     let mut p = page(&[(3, 1), (64, 30)]);
-    assert_eq!(notice(&mut m, 0, &mut p), Ok(0));
+    assert_eq!(notice(&mut m, 0, &mut p), counted(0, 0));
     assert!(m.records[0].pending.is_empty());
     assert_eq!(p, page(&[]));
 }
@@ -151,7 +151,7 @@ fn a_page_of_255_bytes_is_short() {
     let mut m = allowing(&[0x41]);
     let mut p = page(&[(3, 1), (64, 0x41)]);
     assert_eq!(notice(&mut m, 0, &mut p[..255]), Err(SHORT_PAGE));
-    assert_eq!(notice(&mut m, 0, &mut p), Ok(1));
+    assert_eq!(notice(&mut m, 0, &mut p), counted(1, 0));
 
     m.records[0].phase = Phase::Leaving;
     assert_eq!(
@@ -167,7 +167,7 @@ fn misreading_single_vectors_are_tested_too() {
     for low in [0x00, 0x04, 0x40, 0x44] {
         let mut m = allowing(&[0x41]);
         let mut p = page(&[(3, 1), (64, 0x80), (65, low)]);
-        assert_eq!(notice(&mut m, 0, &mut p), Ok(0));
+        assert_eq!(notice(&mut m, 0, &mut p), counted(0, 0));
         assert_eq!(m, allowing(&[0x41]));
     }
 }
@@ -177,12 +177,15 @@ fn misreading_single_vectors_are_tested_too() {
 fn misreading_an_edge_request_keeps_the_level_mark() {
     let mut m = allowing(&[0x61]);
     notice(&mut m, 0, &mut page(&[(3, 1), (64, 0x61), (65, 0x04)])).unwrap();
-    assert_eq!(write(&mut m, 1, 0x830, 0x4061), Ok(1));
-    assert_eq!(write(&mut m, 0, 0x83F, 0x61), Ok(1));
-    assert_eq!(notice(&mut m, 0, &mut page(&[(3, 1), (64, 0x61)])), Ok(1));
+    assert_eq!(write(&mut m, 1, 0x830, 0x4061), Ok(0));
+    assert_eq!(write(&mut m, 0, 0x83F, 0x61), Ok(0));
+    assert_eq!(
+        notice(&mut m, 0, &mut page(&[(3, 1), (64, 0x61)])),
+        counted(0, 1)
+    );
     assert_eq!(
         notice(&mut m, 0, &mut page(&[(3, 1), (65, 0x40), (76, 0x02)])),
-        Ok(1)
+        counted(0, 1)
     );
     assert_eq!(m.records[0].pending_level, set(&[0x61]));
     assert_eq!(

@@ -6,6 +6,7 @@ use std::path::Path;
 
 use reference::coverage::Coverage;
 use reference::generate::generate;
+use reference::merging::Merging;
 use reference::play::play_text;
 
 fn stored() -> Vec<(String, Vec<u8>, String)> {
@@ -40,6 +41,17 @@ fn the_examples_show_everything() {
     let outputs: String = stored().into_iter().map(|(_, _, output)| output).collect();
     let coverage = Coverage::of(outputs.as_bytes()).unwrap();
     assert!(coverage.complete(), "{}", coverage.report());
+}
+
+/// And every way in which a request meets what is pending, in service or in flight.
+#[test]
+fn the_examples_merge_in_every_way() {
+    let traces: Vec<u8> = stored()
+        .into_iter()
+        .flat_map(|(_, trace, _)| trace)
+        .collect();
+    let merging = Merging::of(&traces[..]).unwrap();
+    assert!(merging.missing().is_empty(), "{}", merging.report());
 }
 
 /// The examples in the order of their names, then 20,000 generated events of seed 4.

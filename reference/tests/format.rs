@@ -14,7 +14,7 @@ fn readable(line: &str) -> bool {
 fn the_example() {
     let trace =
         "start 2 1\ncall 0 4 0x141 0\nnotice 0 256 3=1 64=0x41\nentry 0 1 0 0\ncall 0 3 0x80b 0\n";
-    let output = "start ok\ncall ok 0x0\nnotice ok 0x1 page\nentry vector 0x41\ncall ok 0x0\n";
+    let output = "start ok\ncall ok 0x0\nnotice ok 0x1 0x0 page\nentry vector 0x41\ncall ok 0x0\n";
     assert_eq!(play_text(trace.as_bytes()), output);
 }
 
@@ -163,18 +163,48 @@ fn state_lines() {
     let trace =
         "start 1 3\ncall 0 4 0x161 0\ncall 0 4 0x102 0\nnotice 0 257 3=4 192=0x61 193=5 256=9\n\
         call 0 3 0x83f 255\ncall 0 3 0x808 0x10\nentry 0 1 0 1\nstate\n";
-    let output = "start ok\ncall ok 0x0\ncall ok 0x0\nnotice ok 0x2 page 0x100=0x9\ncall ok 0x1\n\
+    let output =
+        "start ok\ncall ok 0x0\ncall ok 0x0\nnotice ok 0x2 0x0 page 0x100=0x9\ncall ok 0x1\n\
         call ok 0x0\nentry vector 0xff\nmodule n=0x1 vmpl=0x3 count=0x1\n\
         vcpu 0x0 phase=active flight=0xff nmi=0x1 tpr=0x10 icr=0x0 allowed={0x2,0x61} \
         pending={0x61} service={0xff} pending_level={0x61} serving_level={}\n";
     assert_eq!(play_text(trace.as_bytes()), output);
 }
 
+/// A notice has two numbers, apart (4.29, 4.37); a refused one has its code alone.
+#[test]
+fn notice_lines() {
+    let trace = "start 1 1\ncall 0 4 0x141 0\ncall 0 4 0x142 0\nnotice 0 256 3=1\n\
+        notice 0 256 3=1 64=0x41\nnotice 0 256 3=1 64=0x41\nnotice 0 256 3=1 65=0x40 72=6 255=9\n\
+        notice 0 255 3=1\n";
+    let output = "start ok\ncall ok 0x0\ncall ok 0x0\nnotice ok 0x0 0x0 page\n\
+        notice ok 0x1 0x0 page\nnotice ok 0x0 0x1 page\nnotice ok 0x1 0x1 page 0xff=0x9\n\
+        notice refused 0x2 page 0x3=0x1\n";
+    assert_eq!(play_text(trace.as_bytes()), output);
+}
+
+#[test]
+fn coverage_tells_notices_apart() {
+    for (line, kind) in [
+        (&b"notice ok 0x0 0x0 page"[..], "notice ok, no item"),
+        (b"notice ok 0x10 0x0 page", "notice ok, new"),
+        (b"notice ok 0x0 0x2 page 0x3=0x2", "notice ok, merged"),
+        (b"notice ok 0x1 0x2 page", "notice ok, new and merged"),
+    ] {
+        let coverage = Coverage::of(line).unwrap();
+        assert_eq!(coverage.count(kind), 1, "{kind}");
+        assert!(coverage.unexpected().is_empty());
+    }
+    let one_number = Coverage::of(&b"notice ok 0x1 page\n"[..]).unwrap();
+    assert_eq!(one_number.unexpected(), ["notice ok"]);
+}
+
 #[test]
 fn coverage_names_what_is_missing() {
-    let some = Coverage::of(&b"start ok\nnotice ok 0x1 page\nentry vector 0x41\n"[..]).unwrap();
+    let some = Coverage::of(&b"start ok\nnotice ok 0x1 0x0 page\nentry vector 0x41\n"[..]).unwrap();
     assert!(!some.missing().contains(&"entry vector"));
     assert!(some.missing().contains(&"entry window"));
+    assert!(some.missing().contains(&"notice ok, merged"));
     assert!(some.unexpected().is_empty());
     let odd = Coverage::of(&b"call refused 0x2\n"[..]).unwrap();
     assert_eq!(odd.unexpected(), ["call refused 0x2"]);

@@ -4,8 +4,10 @@ use std::collections::BTreeSet;
 
 use reference::coverage::Coverage;
 use reference::demand3::{check, Gate};
-use reference::events::{step, Answer, Event, Shown};
+use reference::events::{step, Admission, Answer, Event, Shown};
 use reference::generate::{generate, lists};
+use reference::ipi::Ipi;
+use reference::merging::Merging;
 use reference::page::{admitted, announces, set_bit};
 use reference::play::play_text;
 use reference::set::VectorSet;
@@ -44,6 +46,20 @@ fn everything_occurs() {
         .collect();
     let coverage = Coverage::of(output.as_bytes()).unwrap();
     assert!(coverage.complete(), "{}", coverage.report());
+}
+
+/// Requests meet their item pending in every way, and often.
+#[test]
+fn merging_occurs() {
+    for seed in 0..4 {
+        let trace = generated(seed, 15_000);
+        let merging = Merging::of(&trace[..]).unwrap();
+        assert!(merging.fewest() >= 10, "{}", merging.report());
+        let coverage = Coverage::of(play_text(&trace).as_bytes()).unwrap();
+        for kind in ["notice ok, merged", "notice ok, new and merged"] {
+            assert!(coverage.count(kind) >= 100, "{}", coverage.report());
+        }
+    }
 }
 
 #[test]
@@ -98,16 +114,100 @@ fn untested_vector(m: &mut Module, event: &mut Event) -> Answer {
     answer
 }
 
-/// Against 4.29: a byte that no rule reads is counted.
+/// Against 4.29 and 4.37: a byte that no rule reads is counted.
 fn invented_number(m: &mut Module, event: &mut Event) -> Answer {
     let extra = match event {
         Event::Notice { page, .. } if !page.is_empty() => u32::from(page[0] % 2),
         _ => 0,
     };
-    match step(m, event) {
-        Answer::Notice(Ok(number)) => Answer::Notice(Ok(number + extra)),
+    recounted(step(m, event), |a| Admission {
+        merged: a.merged + extra,
+        ..a
+    })
+}
+
+fn recounted(answer: Answer, change: impl Fn(Admission) -> Admission) -> Answer {
+    match answer {
+        Answer::Notice(Ok(admission)) => Answer::Notice(Ok(change(admission))),
         answer => answer,
     }
+}
+
+/// Against 4.37: every admitted item is called new, as before request A2.
+fn all_items_new(m: &mut Module, event: &mut Event) -> Answer {
+    recounted(step(m, event), |a| Admission {
+        new: a.new + a.merged,
+        merged: 0,
+    })
+}
+
+/// Against 4.37: what was pending is not counted.
+fn loses_merged(m: &mut Module, event: &mut Event) -> Answer {
+    recounted(step(m, event), |a| Admission { merged: 0, ..a })
+}
+
+/// Against 4.29: the item that is in flight is taken for one that was pending.
+fn in_flight_is_pending(m: &mut Module, event: &mut Event) -> Answer {
+    let before = m.clone();
+    let answer = step(m, event);
+    let Event::Notice { vcpu, .. } = *event else {
+        return answer;
+    };
+    let met =
+        |item: Item| !before.record(vcpu).has_pending(item) && m.record(vcpu).has_pending(item);
+    recounted(answer, |a| match before.record(vcpu).flight {
+        Some(item) if met(item) => Admission {
+            new: a.new - 1,
+            merged: a.merged + 1,
+        },
+        _ => a,
+    })
+}
+
+/// Against 4.37: an edge vector is called new where it was pending as level-sensitive.
+fn kinds_kept_apart(m: &mut Module, event: &mut Event) -> Answer {
+    let apart = match event {
+        Event::Notice { vcpu, page } if m.active(*vcpu).is_ok() && page.len() >= 256 => {
+            let record = m.record(*vcpu);
+            let edge = admitted(page, m.vmpl, &record.allowed).edge;
+            let level = |v: &usize| record.pending_level.has(*v);
+            edge.members().into_iter().filter(level).count() as u32
+        }
+        _ => 0,
+    };
+    recounted(step(m, event), |a| Admission {
+        new: a.new + apart,
+        merged: a.merged - apart,
+    })
+}
+
+/// Against 7.20: an IPI names whom it reached, as before request A2.
+fn names_every_target(m: &mut Module, event: &mut Event) -> Answer {
+    let answer = step(m, event);
+    match (Ipi::of(event), answer) {
+        (Some(ipi), Answer::Call(Ok(_))) => {
+            let reached = (0..m.n).filter(|&id| ipi.targets(id) && m.active(id).is_ok());
+            Answer::Call(Ok(reached.map(|id| 2u64.pow(id)).sum()))
+        }
+        _ => answer,
+    }
+}
+
+/// Against 7.16: of the targets without the item only the first gets it, and is named.
+fn one_target_only(m: &mut Module, event: &mut Event) -> Answer {
+    let before = m.clone();
+    let answer = step(m, event);
+    let (Some(ipi), Answer::Call(Ok(named))) = (Ipi::of(event), answer) else {
+        return answer;
+    };
+    let lowest = named & named.wrapping_neg();
+    for id in (0..m.n).filter(|id| (named - lowest) >> id & 1 == 1) {
+        let kept = before.record(id);
+        let record = m.record_mut(id);
+        (record.pending, record.nmi) = (kept.pending.clone(), kept.nmi);
+        assert!(!record.has_pending(ipi.item));
+    }
+    Answer::Call(Ok(lowest))
 }
 
 /// Against 8.11: a presented vector stays pending.
@@ -146,6 +246,22 @@ fn wrong_gates_are_found() {
     assert!(fails(presented_twice));
     assert!(fails(refused_notice_remembered));
     assert!(fails(forgets_early));
+}
+
+/// Isolation and the bound hold of these too: only what answers say of pending items finds them.
+#[test]
+fn wrong_numbers_are_found() {
+    for (gate, fault) in [
+        (all_items_new as Gate, "the first number"),
+        (in_flight_is_pending, "the first number"),
+        (kinds_kept_apart, "the first number"),
+        (loses_merged, "the second number"),
+        (names_every_target, "does not name"),
+        (one_target_only, "leaves an active target"),
+    ] {
+        let verdict = check(1, 20_000, gate).unwrap_err();
+        assert!(verdict.contains(fault), "{verdict}");
+    }
 }
 
 /// 13.10, 13.11

@@ -5,9 +5,11 @@ mod common;
 use common::*;
 use reference::calls::call;
 use reference::codes::*;
-use reference::events::{entry, hand_back, non_delivery, notice, Shown};
+use reference::demand3::{played, remaining};
+use reference::events::{entry, hand_back, non_delivery, notice, step, Answer, Event, Shown};
+use reference::icr;
 use reference::set::VectorSet;
-use reference::state::{start, Item, Module, Phase};
+use reference::state::{start, Item, Module, Phase, Record};
 
 const NMI: Option<Item> = Some(Item::Nmi);
 const PRESENTED_NMI: Result<Shown, Code> = Ok(Shown::Presented(Item::Nmi));
@@ -115,10 +117,10 @@ fn each_level_has_its_announcing_bit() {
         let mut after = p.clone();
         after[3] -= own;
         after[start] = 0;
-        assert_eq!(notice(&mut m, 0, &mut p), Ok(1));
+        assert_eq!(notice(&mut m, 0, &mut p), counted(1, 0));
         assert_eq!(p, after);
         let unchanged = silent.clone();
-        assert_eq!(notice(&mut m, 0, &mut silent), Ok(0));
+        assert_eq!(notice(&mut m, 0, &mut silent), counted(0, 0));
         assert_eq!(silent, unchanged);
     }
 }
@@ -129,9 +131,9 @@ fn a_refused_level_vector_is_no_edge_vector() {
     for vector in [0, 2, 30, 0x80] {
         let mut m = allowing(&[2, 0x41]);
         let mut p = page(&[(3, 1), (64, vector), (65, 0x04)]);
-        assert_eq!(notice(&mut m, 0, &mut p), Ok(0));
+        assert_eq!(notice(&mut m, 0, &mut p), counted(0, 0));
         let mut p = page(&[(3, 1), (64, vector), (65, 0x44), (72, 0x02), (80, 0x01)]);
-        assert_eq!(notice(&mut m, 0, &mut p), Ok(1));
+        assert_eq!(notice(&mut m, 0, &mut p), counted(1, 0));
         assert_eq!(m.records[0].pending, set(&[0x41]));
         assert!(m.records[0].pending_level.is_empty());
     }
@@ -142,7 +144,7 @@ fn a_refused_level_vector_is_no_edge_vector() {
 fn a_marked_level_vector_counts_once() {
     let mut m = allowing(&[0x41, 0x42]);
     let mut p = page(&[(3, 1), (64, 0x41), (65, 0x44), (72, 0x06)]);
-    assert_eq!(notice(&mut m, 0, &mut p), Ok(2));
+    assert_eq!(notice(&mut m, 0, &mut p), counted(2, 0));
     assert_eq!(m.records[0].pending, set(&[0x41, 0x42]));
     assert_eq!(m.records[0].pending_level, set(&[0x41]));
 }
@@ -171,14 +173,13 @@ fn which_bits_survive_a_notice() {
     assert_eq!(single, after);
 }
 
-/// 4.29, 4.30
+/// 4.29, 4.30, 4.37
 #[test]
 fn items_count_each_time_and_226_is_most() {
     let mut m = fresh(2, 1);
     m.records[0].allowed = VectorSet::all();
-    for _ in 0..2 {
-        assert_eq!(notice(&mut m, 0, &mut [0xFF; 256]), Ok(226));
-    }
+    assert_eq!(notice(&mut m, 0, &mut [0xFF; 256]), counted(226, 0));
+    assert_eq!(notice(&mut m, 0, &mut [0xFF; 256]), counted(0, 226));
     assert_eq!(
         m.records[0].pending.members(),
         (31..=255).collect::<Vec<usize>>()
@@ -187,17 +188,103 @@ fn items_count_each_time_and_226_is_most() {
     assert!(m.records[0].nmi);
 }
 
+/// 4.29, 4.37: level-sensitive or edge makes no difference, to what is requested and to what was
+/// pending. A level-sensitive request that is merged still joins PL, an edge one leaves PL.
+#[test]
+fn new_and_merged_do_not_ask_for_the_kind() {
+    let edge = [(3, 1), (64, 0x61)];
+    let level = [(3, 1), (64, 0x61), (65, 0x04)];
+    let marked = [(3, 1), (65, 0x40), (76, 0x02)];
+    let mut as_edge = Record::fresh();
+    as_edge.pending = set(&[0x61]);
+    let mut as_level = as_edge.clone();
+    as_level.pending_level = set(&[0x61]);
+    for (request, after_edge) in [
+        (&edge[..], set(&[])),
+        (&level, set(&[0x61])),
+        (&marked, set(&[])),
+    ] {
+        assert_eq!(told(&Record::fresh(), request).0, counted(1, 0));
+        let (answer, after) = told(&as_edge, request);
+        assert_eq!(answer, counted(0, 1));
+        assert_eq!(after.pending, set(&[0x61]));
+        assert_eq!(after.pending_level, after_edge);
+        let (answer, after) = told(&as_level, request);
+        assert_eq!(answer, counted(0, 1));
+        assert_eq!(after.pending, set(&[0x61]));
+        assert_eq!(after.pending_level, set(&[0x61]));
+    }
+}
+
+/// 4.29: what is in service, in flight or a member of PL alone was not pending, and neither was an
+/// NMI in flight.
+#[test]
+fn what_is_not_pending_is_new() {
+    let mut r = Record::fresh();
+    r.service = set(&[0x41]);
+    r.serving_level = set(&[0x41]);
+    r.pending_level = set(&[0x41]);
+    r.flight = Some(Item::Vector(0x41));
+    let (answer, after) = told(&r, &[(3, 1), (64, 0x41)]);
+    assert_eq!(answer, counted(1, 0));
+    assert_eq!((after.service, after.flight), (r.service, r.flight));
+    let mut r = Record::fresh();
+    r.flight = NMI;
+    assert_eq!(told(&r, &[(3, 1), (65, 0x01)]).0, counted(1, 0));
+    r.nmi = true;
+    assert_eq!(told(&r, &[(3, 1), (65, 0x01)]).0, counted(0, 1));
+}
+
+/// 4.24, 4.37: a level-sensitive vector that is marked too counts once, new or merged.
+#[test]
+fn a_marked_level_vector_is_merged_once() {
+    let mut r = Record::fresh();
+    let twice = [(3, 1), (64, 0x41), (65, 0x44), (72, 0x06)];
+    assert_eq!(told(&r, &twice).0, counted(2, 0));
+    r.pending = set(&[0x41]);
+    assert_eq!(told(&r, &twice).0, counted(1, 1));
+    r.pending = set(&[0x42]);
+    assert_eq!(told(&r, &twice).0, counted(1, 1));
+    r.pending = set(&[0x41, 0x42, 0x43]);
+    assert_eq!(told(&r, &twice).0, counted(0, 2));
+}
+
+/// 4.6, 4.29, 4.37: what is pending counts only where it is admitted again.
+#[test]
+fn a_notice_of_no_item_answers_0_0() {
+    let mut m = allowing(&[0x41]);
+    m.records[0].pending = set(&[0x41, 0x42]);
+    m.records[0].nmi = true;
+    let before = m.clone();
+    for bytes in [
+        &[(64, 0x41), (65, 0x01)][..],
+        &[(3, 1)],
+        &[(3, 1), (64, 0x42), (65, 0x01)],
+        &[(3, 1), (65, 0x40), (72, 0x04)],
+        &[(3, 6), (64, 0x41), (128, 0x41), (192, 0x41)],
+    ] {
+        assert_eq!(notice(&mut m, 0, &mut page(bytes)), counted(0, 0));
+        assert_eq!(m, before);
+    }
+}
+
 /// 4.23
 #[test]
 fn vector_2_is_only_the_nmi() {
     let mut m = allowing(&[2]);
-    assert_eq!(notice(&mut m, 0, &mut page(&[(3, 1), (64, 2)])), Ok(0));
+    assert_eq!(
+        notice(&mut m, 0, &mut page(&[(3, 1), (64, 2)])),
+        counted(0, 0)
+    );
     assert_eq!(
         notice(&mut m, 0, &mut page(&[(3, 1), (64, 2), (65, 4)])),
-        Ok(0)
+        counted(0, 0)
     );
     assert_eq!(m, allowing(&[2]));
-    assert_eq!(notice(&mut m, 0, &mut page(&[(3, 1), (65, 1)])), Ok(1));
+    assert_eq!(
+        notice(&mut m, 0, &mut page(&[(3, 1), (65, 1)])),
+        counted(1, 0)
+    );
     assert!(m.records[0].nmi);
 }
 
@@ -220,7 +307,7 @@ fn a_notice_changes_what_is_pending_alone() {
     after.records[0].pending_level = set(&[0x50, 0x61]);
     after.records[0].nmi = true;
     let mut p = page(&[(3, 1), (64, 0x61), (65, 0x45), (72, 0x02)]);
-    assert_eq!(notice(&mut m, 0, &mut p), Ok(3));
+    assert_eq!(notice(&mut m, 0, &mut p), counted(3, 0));
     assert_eq!(m, after);
 }
 
@@ -232,7 +319,10 @@ fn what_forgets_what_is_in_flight() {
     assert_eq!(entry(&mut m, 0, true, false, false), PRESENTED_NMI);
     assert_eq!(call(&mut m, 0, 5, 0, 0), Err(UNKNOWN_CALL));
     assert_eq!(call(&mut m, 0, 4, 0x11E, 0), Err(BAD_VALUE));
-    assert_eq!(notice(&mut m, 0, &mut page(&[(3, 1), (65, 1)])), Ok(0));
+    assert_eq!(
+        notice(&mut m, 0, &mut page(&[(3, 1), (65, 1)])),
+        counted(0, 0)
+    );
     assert_eq!(write(&mut m, 1, 0x830, 0x4041), Ok(1));
     assert_eq!(
         hand_back(&mut m, 0, &mut page(&[]), true, false),
@@ -295,17 +385,16 @@ fn eoi_with_an_empty_s_changes_no_set() {
 /// 7.9, 7.12
 #[test]
 fn shorthands_and_nmi_vectors() {
-    let mut m = fresh(18, 1);
-    assert_eq!(write(&mut m, 3, 0x830, 0xFFFF_0000_0004_4841), Ok(1 << 3));
-    assert_eq!(write(&mut m, 3, 0x830, 0x0000_0001_0008_4841), Ok(0x3_FFFF));
-    assert_eq!(write(&mut m, 3, 0x830, 0x0000_0003_000C_4041), Ok(0x3_FFF7));
+    let send = |value: u64| write(&mut fresh(18, 1), 3, 0x830, value);
+    assert_eq!(send(0xFFFF_0000_0004_4841), Ok(1 << 3));
+    assert_eq!(send(0x0000_0001_0008_4841), Ok(0x3_FFFF));
+    assert_eq!(send(0x0000_0003_000C_4041), Ok(0x3_FFF7));
     for vector in [0, 2, 30, 255] {
-        assert_eq!(
-            write(&mut m, 3, 0x830, 0x0000_0011_0000_4400 + vector),
-            Ok(1 << 17)
-        );
+        let mut m = fresh(18, 1);
+        let value = 0x0000_0011_0000_4400 + vector;
+        assert_eq!(write(&mut m, 3, 0x830, value), Ok(1 << 17));
+        assert!(m.records[17].nmi);
     }
-    assert!(m.records[17].nmi);
 }
 
 /// 7.5, 13.36: for both types, every shorthand and both modes; the module is the same but for the ICR.
@@ -341,7 +430,7 @@ fn icr_bits_14_and_15_and_the_level_sensitive_part() {
         assert_eq!(m.records[0].pending, set(&[0x41]));
         assert!(m.records[0].pending_level.is_empty());
         m.records[0].pending_level = set(&[0x41]);
-        assert_eq!(write(&mut m, 0, 0x830, 0x4_0041 + bits), Ok(1));
+        assert_eq!(write(&mut m, 0, 0x830, 0x4_0041 + bits), Ok(0));
         assert_eq!(m.records[0].pending_level, set(&[0x41]));
     }
 }
@@ -359,21 +448,21 @@ fn the_self_ipi_register_has_no_bits_14_and_15() {
 /// 7.13 to 7.15, 7.19, 7.21
 #[test]
 fn destinations() {
-    let mut m = fresh(18, 1);
-    let send = |m: &mut Module, value: u64| {
-        let reached = write(m, 0, 0x830, value).unwrap();
-        assert_eq!(read(m, 0, 0x830), Ok(value));
-        reached
+    let send = |value: u64| {
+        let mut m = fresh(18, 1);
+        let named = write(&mut m, 0, 0x830, value).unwrap();
+        assert_eq!(read(&mut m, 0, 0x830), Ok(value));
+        named
     };
-    assert_eq!(send(&mut m, 0xFFFF_FFFF_0000_4041), 0x3_FFFF);
-    assert_eq!(send(&mut m, 0xFFFF_FFFF_0000_4841), 0x3_FFFF);
-    assert_eq!(send(&mut m, 0x0000_0012_0000_4041), 0);
-    assert_eq!(send(&mut m, 0x0000_0100_0000_4041), 0);
-    assert_eq!(send(&mut m, 0x0001_0003_0000_4841), 0x3_0000);
-    assert_eq!(send(&mut m, 0x0001_FFFC_0000_4841), 0);
-    assert_eq!(send(&mut m, 0x0002_FFFF_0000_4841), 0);
-    assert_eq!(send(&mut m, 0x0000_0000_0000_4841), 0);
-    assert_eq!(send(&mut m, 0x0000_8001_0000_4841), 0x8001);
+    assert_eq!(send(0xFFFF_FFFF_0000_4041), 0x3_FFFF);
+    assert_eq!(send(0xFFFF_FFFF_0000_4841), 0x3_FFFF);
+    assert_eq!(send(0x0000_0012_0000_4041), 0);
+    assert_eq!(send(0x0000_0100_0000_4041), 0);
+    assert_eq!(send(0x0001_0003_0000_4841), 0x3_0000);
+    assert_eq!(send(0x0001_FFFC_0000_4841), 0);
+    assert_eq!(send(0x0002_FFFF_0000_4841), 0);
+    assert_eq!(send(0x0000_0000_0000_4841), 0);
+    assert_eq!(send(0x0000_8001_0000_4841), 0x8001);
 }
 
 /// 7.16, 7.20
@@ -386,6 +475,128 @@ fn targets_that_are_not_active() {
     assert_eq!(write(&mut m, 0, 0x830, 0x0008_4041), Ok(1));
     assert_eq!(write(&mut m, 0, 0x830, 0x000C_4400), Ok(0));
     assert_eq!((&m.records[1], &m.records[2]), (&second, &third));
+}
+
+/// Five vCPUs: 0x41 and the NMI are pending at vCPU 1, 0x41 is level-sensitive at vCPU 2 and in
+/// service at vCPU 0, vCPU 3 is leaving.
+fn some_pending() -> Module {
+    let mut m = fresh(5, 1);
+    m.records[0].service = set(&[0x41]);
+    m.records[1].pending = set(&[0x41]);
+    m.records[1].nmi = true;
+    m.records[2].pending = set(&[0x41]);
+    m.records[2].pending_level = set(&[0x41]);
+    m.records[3].phase = Phase::Leaving;
+    m
+}
+
+/// 7.16, 7.20: the answer names the targets where the item became pending, and every active target
+/// has it afterwards. PL stays.
+#[test]
+fn an_ipi_names_where_its_item_became_pending() {
+    for (value, named) in [
+        (0x0008_4041, 0b10001),
+        (0x000C_4041, 0b10000),
+        (0xFFFF_FFFF_0000_4841, 0b10001),
+        (0x0000_000E_0000_4841, 0),
+        (0x0000_0003_0000_4041, 0),
+        (0x0008_4042, 0b10111),
+    ] {
+        let mut m = some_pending();
+        let vector = value as usize % 256;
+        assert_eq!(write(&mut m, 0, 0x830, value), Ok(named), "{value:#x}");
+        let mut after = some_pending();
+        after.records[0].icr = value;
+        for (id, r) in after.records.iter_mut().enumerate() {
+            if r.phase == Phase::Active && icr::names(value, 0, id as u32) {
+                r.pending.put(vector);
+            }
+        }
+        assert_eq!(m, after, "{value:#x}");
+    }
+}
+
+/// 7.20: the same of NMIs, where the mark is asked.
+#[test]
+fn an_nmi_names_where_its_mark_was_clear() {
+    for (caller, value, named) in [
+        (0, 0x000C_4400, 0b10100),
+        (1, 0x000C_4400, 0b10101),
+        (0, 0xFFFF_FFFF_0000_4400, 0b10101),
+        (4, 0x0000_0001_0000_4400, 0),
+        (0, 0x0000_0002_0000_4400, 0b100),
+    ] {
+        let mut m = some_pending();
+        assert_eq!(write(&mut m, caller, 0x830, value), Ok(named), "{value:#x}");
+        assert!(m.records[1].nmi);
+        assert!(!m.records[3].nmi);
+        assert_eq!(write(&mut m, caller, 0x830, value), Ok(0), "{value:#x}");
+    }
+}
+
+/// 5.3, 7.19, 7.20: one whose targets all had the item answers 0, is stored, and forgets what is in
+/// flight, as any IPI.
+#[test]
+fn an_ipi_that_names_nobody_is_one_all_the_same() {
+    for (register, value, icr) in [
+        (0x830, 0x0004_4041, 0x0004_4041),
+        (0x830, 0xFFFF_FFFF_0000_4400, 0xFFFF_FFFF_0000_4400),
+        (0x83F, 0x41, 0),
+    ] {
+        let mut m = fresh(1, 1);
+        m.records[0].pending = set(&[0x41]);
+        m.records[0].nmi = true;
+        m.records[0].service = set(&[0x41]);
+        m.records[0].flight = Some(Item::Vector(0x41));
+        let mut after = m.clone();
+        after.records[0].icr = icr;
+        after.records[0].flight = None;
+        assert_eq!(write(&mut m, 0, register, value), Ok(0), "{value:#x}");
+        assert_eq!(m, after);
+        assert_eq!(non_delivery(&mut m, 0), Err(NOTHING_IN_FLIGHT));
+    }
+}
+
+/// 12.21: the bound counts an IPI to every active target, named or not, and none to another.
+#[test]
+fn sent_is_to_every_active_target() {
+    let call = |vcpu, call, ecx, rdx| Event::Call {
+        vcpu,
+        call,
+        ecx,
+        rdx,
+    };
+    let list = [
+        Event::Start { n: 3, vmpl: 1 },
+        call(1, 3, 0x83F, 0x41),
+        call(0, 3, 0x830, 0x0008_4041),
+        call(0, 3, 0x830, 0x0008_4041),
+        call(2, 1, DEREGISTER, 0),
+        call(0, 3, 0x830, 0x0008_4041),
+        call(1, 3, 0x830, 0x000C_4400),
+        call(1, 3, 0x830, 0x000C_4400),
+    ];
+    let played = played(&list, step);
+    let answers = [2, 5, 0, 0, 0, 1, 0].map(|value| Answer::Call(Ok(value)));
+    assert_eq!(played.answers[1..], answers);
+    for (item, sent) in [(Item::Vector(0x41), [3, 4, 2]), (Item::Nmi, [2, 0, 0])] {
+        for vcpu in 0..3 {
+            let rest = remaining(&list, &played, vcpu, item);
+            assert_eq!(rest, Ok(sent[vcpu as usize]), "{item:?} on {vcpu}");
+        }
+    }
+}
+
+/// 7.20, 7.22: a self-IPI of a pending vector, level-sensitive or not, names nobody.
+#[test]
+fn a_self_ipi_of_a_pending_vector() {
+    let mut m = some_pending();
+    let (second, third) = (m.records[1].clone(), m.records[2].clone());
+    assert_eq!(write(&mut m, 0, 0x83F, 0x41), Ok(1));
+    assert_eq!(write(&mut m, 1, 0x83F, 0x41), Ok(0));
+    assert_eq!(write(&mut m, 2, 0x83F, 0x41), Ok(0));
+    assert_eq!((&m.records[1], &m.records[2]), (&second, &third));
+    assert_eq!(write(&mut m, 2, 0x83F, 0x42), Ok(4));
 }
 
 /// 7.22, 7.23
@@ -533,7 +744,7 @@ fn call_4_has_no_form_for_all_vectors() {
 fn a_level_vector_not_allowed_gets_no_eoi() {
     let mut m = allowing(&[0x41]);
     let mut p = page(&[(3, 1), (64, 0x61), (65, 0x04)]);
-    assert_eq!(notice(&mut m, 0, &mut p), Ok(0));
+    assert_eq!(notice(&mut m, 0, &mut p), counted(0, 0));
     assert_eq!(m, allowing(&[0x41]));
     assert_eq!(entry(&mut m, 0, true, false, false), Ok(Shown::Nothing));
     assert_eq!(write(&mut m, 0, 0x80B, 0), Ok(0));

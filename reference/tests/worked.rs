@@ -1,4 +1,4 @@
-//! The cases worked here (14.21 to 14.44, 14.46 to 14.49), on an implementation that was written apart from the definitions.
+//! The cases worked here (14.21 to 14.44, 14.46 to 14.58), on an implementation that was written apart from the definitions.
 
 mod common;
 
@@ -7,7 +7,7 @@ use reference::calls::call;
 use reference::codes::{BAD_VALUE, NOTHING_IN_FLIGHT, SHORT_PAGE, UNKNOWN_VCPU};
 use reference::events::{entry, hand_back, non_delivery, notice, Shown};
 use reference::registers::{kind, Kind};
-use reference::state::{Item, Module, Phase};
+use reference::state::{Item, Module, Phase, Record};
 
 const EOI: u32 = 0x80B;
 const ICR: u32 = 0x830;
@@ -37,13 +37,13 @@ fn cleared(at: usize, byte_3: u8) -> Vec<u8> {
 #[test]
 fn what_a_notice_clears() {
     let mut p = ones(&[]);
-    assert_eq!(notice(&mut fresh(2, 1), 0, &mut p), Ok(0));
+    assert_eq!(notice(&mut fresh(2, 1), 0, &mut p), counted(0, 0));
     assert_eq!(p, cleared(64, 0xFE));
     let mut p = ones(&[(65, 0xBF)]);
-    assert_eq!(notice(&mut fresh(2, 1), 0, &mut p), Ok(0));
+    assert_eq!(notice(&mut fresh(2, 1), 0, &mut p), counted(0, 0));
     assert_eq!(p, ones(&[(3, 0xFE), (64, 0), (65, 0xB8)]));
     let mut p = ones(&[]);
-    assert_eq!(notice(&mut fresh(2, 3), 0, &mut p), Ok(0));
+    assert_eq!(notice(&mut fresh(2, 3), 0, &mut p), counted(0, 0));
     assert_eq!(p, cleared(192, 0xFB));
 }
 
@@ -294,7 +294,7 @@ fn a_level_vector_comes_back_as_one() {
     let mut m = allowing(&[0x61]);
     assert_eq!(
         notice(&mut m, 0, &mut page(&[(3, 1), (64, 0x61), (65, 0x04)])),
-        Ok(1)
+        counted(1, 0)
     );
     assert_eq!(entry(&mut m, 0, true, false, false), Ok(presented(0x61)));
     assert_eq!(non_delivery(&mut m, 0), Ok(0));
@@ -309,7 +309,10 @@ fn a_level_vector_comes_back_as_one() {
 #[test]
 fn nmis() {
     let mut m = allowing(&[2]);
-    assert_eq!(notice(&mut m, 0, &mut page(&[(3, 1), (65, 0x01)])), Ok(1));
+    assert_eq!(
+        notice(&mut m, 0, &mut page(&[(3, 1), (65, 0x01)])),
+        counted(1, 0)
+    );
     assert_eq!(
         entry(&mut m, 0, false, false, false),
         Ok(Shown::Presented(Item::Nmi))
@@ -334,7 +337,10 @@ fn a_worked_list() {
     let mut m: Module = fresh(1, 1);
     let shown = Ok(presented(0x41));
     assert_eq!(call(&mut m, 0, 4, 0x141, 0), Ok(0));
-    assert_eq!(notice(&mut m, 0, &mut page(&[(3, 1), (64, 0x41)])), Ok(1));
+    assert_eq!(
+        notice(&mut m, 0, &mut page(&[(3, 1), (64, 0x41)])),
+        counted(1, 0)
+    );
     assert_eq!(entry(&mut m, 0, true, false, false), shown);
     assert_eq!(non_delivery(&mut m, 0), Ok(0));
     assert_eq!(entry(&mut m, 0, true, false, false), shown);
@@ -356,14 +362,17 @@ fn a_worked_list_of_two() {
     let mut m: Module = fresh(2, 1);
     let nmi = Ok(Shown::Presented(Item::Nmi));
     assert_eq!(call(&mut m, 0, 4, 0x102, 0), Ok(0));
-    assert_eq!(notice(&mut m, 0, &mut page(&[(3, 1), (65, 0x01)])), Ok(1));
+    assert_eq!(
+        notice(&mut m, 0, &mut page(&[(3, 1), (65, 0x01)])),
+        counted(1, 0)
+    );
     assert_eq!(write(&mut m, 0, ICR, 0xC4400), Ok(2));
     assert_eq!(entry(&mut m, 1, true, false, false), nmi);
     assert_eq!(non_delivery(&mut m, 1), Ok(0));
     assert_eq!(entry(&mut m, 1, true, false, false), nmi);
     assert_eq!(write(&mut m, 1, ICR, 0x84041), Ok(3));
     assert_eq!(call(&mut m, 0, 1, DEREGISTER, 0), Ok(0));
-    assert_eq!(write(&mut m, 1, ICR, 0x84041), Ok(2));
+    assert_eq!(write(&mut m, 1, ICR, 0x84041), Ok(0));
     let mut p = page(&[]);
     assert_eq!(hand_back(&mut m, 0, &mut p, true, false), Ok(65537));
     assert_eq!(p, page(&[(65, 0x41), (72, 0x02)]));
@@ -371,4 +380,157 @@ fn a_worked_list_of_two() {
     let mut p = page(&[]);
     assert_eq!(hand_back(&mut m, 1, &mut p, false, true), Ok(65538));
     assert_eq!(p, page(&[(65, 0x40), (72, 0x02)]));
+}
+
+/// A record with these pending, and otherwise fresh.
+fn pending(vectors: &[usize], nmi: bool) -> Record {
+    let mut r = Record::fresh();
+    r.pending = set(vectors);
+    r.nmi = nmi;
+    r
+}
+
+/// 14.42: vCPU 0 after an entry that presents 0x41
+fn shown_41() -> Module {
+    let mut m = fresh(2, 1);
+    m.records[0].pending = set(&[0x41]);
+    m.records[0].tpr = 0x3F;
+    assert_eq!(entry(&mut m, 0, true, false, false), Ok(presented(0x41)));
+    m
+}
+
+/// 14.50
+#[test]
+fn a_superfluous_notice() {
+    let (answer, after) = told(&pending(&[0x41], false), &[(3, 1), (64, 0x41)]);
+    assert_eq!(answer, counted(0, 1));
+    assert_eq!(after.pending, set(&[0x41]));
+    let (answer, _) = told(&pending(&[0x41], false), &[(64, 0x41)]);
+    assert_eq!(answer, counted(0, 0));
+}
+
+/// 14.51
+#[test]
+fn a_notice_of_three_items() {
+    let many = [(3, 1), (65, 0x41), (72, 0x02), (74, 0x04)];
+    for (record, answer) in [
+        (pending(&[], false), counted(3, 0)),
+        (pending(&[0x41], true), counted(1, 2)),
+        (pending(&[], true), counted(2, 1)),
+        (pending(&[0x41, 0x52], true), counted(0, 3)),
+    ] {
+        assert_eq!(told(&record, &many).0, answer);
+    }
+}
+
+/// 14.52
+#[test]
+fn level_sensitive_and_edge_requests_merge() {
+    let level = [(3, 1), (64, 0x61), (65, 0x04)];
+    let (answer, after) = told(&pending(&[0x61], false), &level);
+    assert_eq!(answer, counted(0, 1));
+    assert_eq!(after.pending_level, set(&[0x61]));
+    let mut as_level = pending(&[0x61], false);
+    as_level.pending_level = set(&[0x61]);
+    let (answer, after) = told(&as_level, &[(3, 1), (64, 0x61)]);
+    assert_eq!(answer, counted(0, 1));
+    assert_eq!(after.pending_level, set(&[0x61]));
+    let marked = [(3, 1), (64, 0x61), (65, 0x44), (76, 0x02)];
+    assert_eq!(told(&Record::fresh(), &marked).0, counted(1, 0));
+    assert_eq!(told(&pending(&[0x61], false), &marked).0, counted(0, 1));
+}
+
+/// 14.53
+#[test]
+fn what_was_not_pending() {
+    let edge = [(3, 1), (64, 0x41)];
+    let mut serving = Record::fresh();
+    serving.service = set(&[0x41]);
+    assert_eq!(told(&serving, &edge).0, counted(1, 0));
+    assert_eq!(told(&shown_41().records[0], &edge).0, counted(1, 0));
+    let mut level_alone = Record::fresh();
+    level_alone.pending_level = set(&[0x41]);
+    assert_eq!(told(&level_alone, &edge).0, counted(1, 0));
+}
+
+/// 14.54
+#[test]
+fn whom_an_ipi_names() {
+    let mut at_1 = fresh(2, 1);
+    at_1.records[1] = pending(&[0x41], true);
+    for (caller, register, value, named) in [
+        (0, ICR, 0x84041, 1),
+        (0, ICR, 0x1_0000_4042, 2),
+        (0, ICR, 0x1_0000_4400, 0),
+        (0, ICR, 0xFFFF_FFFF_0000_4400, 1),
+        (1, SELF_IPI, 0x41, 0),
+        (1, SELF_IPI, 0x42, 2),
+    ] {
+        let mut m = at_1.clone();
+        assert_eq!(write(&mut m, caller, register, value), Ok(named));
+    }
+    let mut m = at_1.clone();
+    assert_eq!(write(&mut m, 0, ICR, 0x84041), Ok(1));
+    assert_eq!(m.records[0].pending, set(&[0x41]));
+    assert_eq!(m.records[1].pending, set(&[0x41]));
+    let mut m = fresh(2, 1);
+    m.records[1].service = set(&[0x41]);
+    assert_eq!(write(&mut m, 0, ICR, 0x1_0000_4041), Ok(2));
+}
+
+/// 14.55
+#[test]
+fn an_ipi_that_names_nobody() {
+    let mut m = shown_41();
+    m.records[0].pending = set(&[0x42]);
+    assert_eq!(write(&mut m, 0, ICR, 0x44042), Ok(0));
+    assert_eq!(non_delivery(&mut m.clone(), 0), Err(NOTHING_IN_FLIGHT));
+    assert_eq!(read(&mut m, 0, ICR), Ok(0x44042));
+    let mut m = shown_41();
+    m.records[0].pending = set(&[0x42]);
+    assert_eq!(write(&mut m, 0, SELF_IPI, 0x42), Ok(0));
+    assert_eq!(non_delivery(&mut m.clone(), 0), Err(NOTHING_IN_FLIGHT));
+    assert_eq!(read(&mut m, 0, ICR), Ok(0));
+}
+
+/// 14.56
+#[test]
+fn the_most_that_a_notice_admits() {
+    let all: Vec<usize> = (0..256).collect();
+    for (record, answer) in [
+        (Record::fresh(), counted(226, 0)),
+        (pending(&all, true), counted(0, 226)),
+    ] {
+        let mut m = fresh(2, 1);
+        m.records[0] = record;
+        m.records[0].allowed = set(&all);
+        assert_eq!(notice(&mut m, 0, &mut ones(&[])), answer);
+    }
+    let (_, after) = told(&pending(&[0x52], true), &[(3, 1), (64, 0x41)]);
+    assert_eq!(after.pending, set(&[0x41, 0x52]));
+    assert!(after.nmi);
+}
+
+/// 14.57
+#[test]
+fn the_last_of_32_vcpus() {
+    for (register, value, named) in [
+        (ICR, 0x84041, 0xFFFF_FFFF),
+        (ICR, 0xC4041, 0x7FFF_FFFF),
+        (ICR, 0x44041, 0x8000_0000),
+        (ICR, 0x1F_0000_4041, 0x8000_0000),
+        (ICR, 0x0001_8000_0000_4841, 0x8000_0000),
+        (SELF_IPI, 0x41, 0x8000_0000),
+    ] {
+        assert_eq!(write(&mut fresh(32, 1), 31, register, value), Ok(named));
+    }
+}
+
+/// 14.58
+#[test]
+fn places_at_n_and_above_are_not_named() {
+    let mut m = fresh(32, 1);
+    m.n = 2;
+    assert_eq!(write(&mut m, 0, ICR, 0x84041), Ok(3));
+    assert_eq!(m.records[2], Record::fresh());
 }

@@ -110,8 +110,9 @@ fn write(v: &mut Vcpu, id: u32, register: u32, value: u64) -> Outcome {
         EOI if value == 0 => Outcome::Done(end(v)),
         SELF_IPI if (31..=255).contains(&value) => {
             let (w, bit) = place(value as u8);
+            let new = v.irr[w] & bit == 0;
             v.irr[w] |= bit;
-            Outcome::Done(1 << id)
+            Outcome::Done(u64::from(new) << id)
         }
         TPR | EOI | SELF_IPI | ID | PPR | LDR | ISR..=0x827 => BAD,
         _ => Outcome::Refused(Refusal::BadRegister),
@@ -171,7 +172,7 @@ fn write_icr(m: &mut Module, caller: u32, value: u64) -> Outcome {
     v.flight = InFlight::Nothing;
     let (w, bit) = place(value as u8);
     let mut left = targets(caller, value) & u32::MAX >> (32 - m.n);
-    let mut reached = 0;
+    let mut named = 0;
     while left != 0 {
         let k = left.trailing_zeros();
         left &= left - 1;
@@ -179,12 +180,16 @@ fn write_icr(m: &mut Module, caller: u32, value: u64) -> Outcome {
         if target.phase != Phase::Active {
             continue;
         }
-        if nmi {
+        let new = if nmi {
+            let new = !target.nmi;
             target.nmi = true;
+            new
         } else {
+            let new = target.irr[w] & bit == 0;
             target.irr[w] |= bit;
-        }
-        reached |= 1 << k;
+            new
+        };
+        named |= u64::from(new) << k;
     }
-    Outcome::Done(reached)
+    Outcome::Done(named)
 }

@@ -72,6 +72,13 @@ pub enum Outcome {
     Refused(Refusal),
 }
 
+/// Of a notice: the items that became pending, and the admitted items that were pending before it (4.29, 4.37).
+#[derive(Clone, Copy, PartialEq, Eq, Debug)]
+pub enum Admission {
+    Items(u32, u32),
+    Refused(Refusal),
+}
+
 #[derive(Clone, Copy, PartialEq, Eq, Debug)]
 pub enum Presentation {
     Nothing,

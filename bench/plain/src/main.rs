@@ -1,7 +1,7 @@
 //! The loop of `bench/run` over one kind of event; `../loop.rattle` is the same over the proved functions. What both
 //! print must be equal: the last answer, and digests of all answers and of the module and the page afterwards.
 
-use plain::{InFlight, Module, Outcome, Phase, Presentation, Refusal, Vcpu};
+use plain::{Admission, InFlight, Module, Outcome, Phase, Presentation, Refusal, Vcpu};
 use std::io::Read;
 
 /// The numbers on standard input, so that the compiler knows none of them.
@@ -54,6 +54,13 @@ fn outcome(o: Outcome) -> u64 {
     match o {
         Outcome::Done(value) => value,
         Outcome::Refused(r) => refused(r),
+    }
+}
+
+fn admission(a: Admission) -> u64 {
+    match a {
+        Admission::Items(new, merged) => (u64::from(merged) << 16) + u64::from(new),
+        Admission::Refused(r) => refused(r),
     }
 }
 
@@ -127,7 +134,7 @@ fn lay_out(g: &Given, v: &mut Vcpu, page: &mut [u8; 256]) {
 fn play(g: &Given, m: &mut Module, k: u32, page: &mut [u8; 256]) -> u64 {
     match g.kind {
         0 => presentation(plain::entry(m, k, g.iflag, false, false)),
-        1 | 2 => outcome(plain::notice(m, k, page)),
+        1 | 2 => admission(plain::notice(m, k, page)),
         3 => outcome(plain::call(m, k, g.call, g.ecx, g.rdx)),
         4 => outcome(plain::non_delivery(m, k)),
         _ => outcome(plain::hand_back(m, k, page, g.iflag, false)),

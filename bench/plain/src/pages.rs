@@ -1,6 +1,6 @@
 //! The events with a page: notices (section 4) and hand-backs (section 10).
 
-use crate::{highest, place, Module, Outcome, Phase, Refusal, Set, Vcpu};
+use crate::{highest, place, Admission, Module, Outcome, Phase, Refusal, Set, Vcpu};
 
 /// Bits 8, 10 and 14 of a descriptor, in its byte 1 (4.10, 4.12, 4.13).
 const NMI: u8 = 0x01;
@@ -26,50 +26,58 @@ fn word(bytes: &[u8; 64], k: usize) -> u32 {
 /// Section 4
 #[inline(never)]
 #[export_name = "plain::notice"]
-pub fn notice(m: &mut Module, vcpu: u32, page: &mut [u8]) -> Outcome {
+pub fn notice(m: &mut Module, vcpu: u32, page: &mut [u8]) -> Admission {
     if !m.has(vcpu) {
-        return Outcome::Refused(Refusal::UnknownVcpu);
+        return Admission::Refused(Refusal::UnknownVcpu);
     }
     let v = &mut m.vcpus[vcpu as usize];
     if v.phase != Phase::Active {
-        return Outcome::Refused(Refusal::NotActive);
+        return Admission::Refused(Refusal::NotActive);
     }
     if page.len() < 256 {
-        return Outcome::Refused(Refusal::ShortPage);
+        return Admission::Refused(Refusal::ShortPage);
     }
     let announced = 1 << (m.vmpl - 1);
     if page[3] & announced == 0 {
-        return Outcome::Done(0);
+        return Admission::Items(0, 0);
     }
     page[3] &= !announced;
     let d = area(page, m.vmpl);
     let (single, flags) = (d[0], d[1]);
     d[0] = 0;
     d[1] = flags & KEPT;
-    let mut items = 0;
+    let (mut new, mut merged) = (0, 0);
     if flags & NMI != 0 && v.allowed[0] & 1 << 2 != 0 {
+        merged += u32::from(v.nmi);
+        new += u32::from(!v.nmi);
         v.nmi = true;
-        items += 1;
     }
     let (w, bit) = place(single);
     let named = single >= 31 && v.allowed[w] & bit != 0;
     let level = named && flags & LEVEL != 0;
+    let before = v.irr;
     if named && (level || flags & MANY == 0) {
+        let was = u32::from(v.irr[w] & bit != 0);
+        merged += was;
+        new += 1 - was;
         v.irr[w] |= bit;
-        items += 1;
     }
     if level {
         v.irr_level[w] |= bit;
     }
     if flags & MANY != 0 {
-        items += u64::from(admit_many(v, d, if level { Some((w, bit)) } else { None }));
+        let edge = admit_many(v, d, if level { Some((w, bit)) } else { None });
+        for (was, more) in before.iter().zip(edge) {
+            merged += (was & more).count_ones();
+            new += (!was & more).count_ones();
+        }
     }
-    Outcome::Done(items)
+    Admission::Items(new, merged)
 }
 
 /// 4.18, 4.32; the level-sensitive vector is not counted again (4.24).
 #[inline]
-fn admit_many(v: &mut Vcpu, d: &mut [u8; 64], level: Option<(usize, u32)>) -> u32 {
+fn admit_many(v: &mut Vcpu, d: &mut [u8; 64], level: Option<(usize, u32)>) -> Set {
     let mut edge: Set = std::array::from_fn(|k| word(d, k) & v.allowed[k]);
     edge[0] &= MARK_31;
     if let Some((w, bit)) = level {
@@ -80,7 +88,7 @@ fn admit_many(v: &mut Vcpu, d: &mut [u8; 64], level: Option<(usize, u32)>) -> u3
     }
     d[3] &= 0x7F;
     d[4..32].fill(0);
-    edge.iter().map(|word| word.count_ones()).sum()
+    edge
 }
 
 /// Section 10

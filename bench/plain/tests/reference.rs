@@ -1,7 +1,7 @@
 //! The plain gate against `reference`, on its generated events: every answer, page and module.
 
 use plain::{InFlight, Outcome, Presentation, Set};
-use reference::events::{step, Answer, Event, Shown};
+use reference::events::{step, Admission, Answer, Event, Shown};
 use reference::generate::Generator;
 use reference::set::VectorSet;
 use reference::state::{Item, Module, Phase, Record};
@@ -56,6 +56,13 @@ fn small(o: Outcome) -> Result<u32, u32> {
     number(o).map(|value| value as u32)
 }
 
+fn counted(a: plain::Admission) -> Result<Admission, u32> {
+    match a {
+        plain::Admission::Items(new, merged) => Ok(Admission { new, merged }),
+        plain::Admission::Refused(r) => Err(r as u32),
+    }
+}
+
 fn shown(p: Presentation) -> Result<Shown, u32> {
     match p {
         Presentation::Nothing => Ok(Shown::Nothing),
@@ -73,7 +80,7 @@ fn played(m: &mut plain::Module, event: &mut Event) -> Answer {
             *m = started;
             Answer::Start(number(outcome).map(|_| ()))
         }
-        Event::Notice { vcpu, page } => Answer::Notice(small(plain::notice(m, *vcpu, page))),
+        Event::Notice { vcpu, page } => Answer::Notice(counted(plain::notice(m, *vcpu, page))),
         Event::Call {
             vcpu,
             call,

@@ -3,6 +3,7 @@ pub mod input;
 pub mod output;
 pub mod report;
 
+use model::Admission;
 use model::Outcome;
 use model::Presentation;
 use output::Sink;
@@ -38,6 +39,7 @@ pub struct Session {
 pub enum Answer {
     Nothing,
     Outcome(Outcome),
+    Admission(Admission),
     Presentation(Presentation),
 }
 

@@ -10,6 +10,7 @@ use crate::output::put_byte;
 use crate::output::put_decimal;
 use crate::output::put_hex;
 use libc::STDERR_FILENO;
+use model::Admission;
 use model::InFlight;
 use model::Module;
 use model::Outcome;
@@ -24,6 +25,16 @@ fn put_outcome(out: &mut Chunk, sink: Sink, o: Outcome) -> Sink {
     match o {
         Outcome::Done(v) => put_hex(out, sink, b" ok ", v),
         Outcome::Refused(r) => put_hex(out, sink, b" refused ", gate::code(r) as u64),
+    }
+}
+
+fn put_admission(out: &mut Chunk, sink: Sink, a: Admission) -> Sink {
+    match a {
+        Admission::Items(new, merged) => {
+            let sink = put_hex(out, sink, b" ok ", new as u64);
+            put_hex(out, sink, b" ", merged as u64)
+        }
+        Admission::Refused(r) => put_hex(out, sink, b" refused ", gate::code(r) as u64),
     }
 }
 
@@ -43,6 +54,7 @@ fn put_answer(out: &mut Chunk, sink: Sink, name: &[u8], a: Answer) -> Sink {
     match a {
         Answer::Nothing => sink,
         Answer::Outcome(o) => put_outcome(out, sink, o),
+        Answer::Admission(x) => put_admission(out, sink, x),
         Answer::Presentation(p) => put_presentation(out, sink, p),
     }
 }

@@ -1,2 +1,3 @@
 pub mod Admits
 pub mod Masks
+pub mod Asked

@@ -1,15 +1,17 @@
 -- Laws of bytes by their bits: a word is four bytes, and a mask reads one bit.
 -- Assumes nothing.
 use mathlib.Core.Path.{_≡_, refl, sym, ap, _∙_}
-use mathlib.Core.Bool.{Bool, true, false}
+use mathlib.Core.Bool.{Bool, true, false, not}
 use mathlib.Core.List.{List}
 use Prim.Native.Nat.{ℕ, zero, suc, _+_, _*_, _-_, _^_, _<_}
 use native.Mathlib.Omega.{arith}
 use native.Mathlib.Nat.{pow-succ', zero-mul, add-comm, mul-assoc}
 use native.Mathlib.Numerals.{add-one}
 use lib.Pow.{pow-pos}
+use lib.Dec.{eqb}
 use lib.ListN.{getD}
 use lib.Bits.{bitAnd, and-high}
+use borrow.Author.Tests.{eqb-true, eqb-false}
 use Rattle.vector_set.specs.Bits.{one, bitAt, bits}
 use Rattle.vector_set.proofs.BitLaws.{bits-unique, bit-number}
 use Rattle.model.specs.Doorbell.{bitOf}
@@ -66,3 +68,11 @@ mask-set k x n = go (bitAt x k) (mask-bit k x)
     go : (b : Bool) → bitAnd x (2 ^ k) ≡ one b * 2 ^ k → b ≡ true
     go true h = refl
     go false h = absurd (n (h ∙ zero-mul (2 ^ k)))
+
+-- the bit by the test that code makes
+pub mask-test : (k x : ℕ) → not (eqb (bitAnd x (2 ^ k)) 0) ≡ bitAt x k
+mask-test k x = go (eqb (bitAnd x (2 ^ k)) 0) refl
+  where
+    go : (b : Bool) → eqb (bitAnd x (2 ^ k)) 0 ≡ b → not b ≡ bitAt x k
+    go true e = sym (mask-clear k x (eqb-true (bitAnd x (2 ^ k)) 0 e))
+    go false e = sym (mask-set k x (eqb-false (bitAnd x (2 ^ k)) 0 e))

@@ -1,14 +1,14 @@
-// The descriptor: what its 32 bytes admit.
+// The descriptor: what its 32 bytes ask for and admit. Its marks are read apart, since most descriptors have none.
 ghost use mathlib.Core.Path.{_≡_};
-ghost use mathlib.Core.Bool.{true, false, _&&_};
+ghost use mathlib.Core.Bool.{true, cond, _&&_};
 ghost use Prim.Native.Nat.{_+_, _*_, _≤_, _<_};
 ghost use lib.ListN.{length, getD};
 ghost use Rattle.vector_set.specs.Bits.{bits};
-ghost use Rattle.vector_set.specs.Sets.{has, collect, vectorOf};
-ghost use Rattle.model.specs.Doorbell.{bitOf, manyBit, isVector, partOf, admitsNmi, admitsLevel, admitsEdge, admits};
-use model::Admitted;
+ghost use Rattle.vector_set.specs.Sets.{has, collect};
+ghost use Rattle.model.specs.Doorbell.{bitOf, manyBit, isVector, admitsNmi, admitsEdge};
+ghost use Rattle.descriptor.specs.Requests.{singleBit, requestedIn};
+use ipi::Posting;
 use model::NMI_VECTOR;
-use vector_set::Found;
 use vector_set::LOWEST;
 
 // The bytes of a descriptor, and of a set.
@@ -20,6 +20,14 @@ pub const NMI: u8 = 0x01;
 pub const LEVEL: u8 = 0x04;
 
 pub const MANY: u8 = 0x40;
+
+// What a descriptor asks for beside its marks: the NMI and the vector in bits 7:0, as far as they are admitted; the vector's bit again where it is
+// level-sensitive; bit 14, with which the marks count.
+pub struct Requested {
+    pub posting: Posting,
+    pub level: u32,
+    pub many: bool,
+}
 
 fn byte_at(d: &[u8], i: usize) -> u32
     requires { ⌜ i < length (now d) ⌝ }
@@ -70,59 +78,66 @@ fn may_name(allowed: [u32; 8], v: u8) -> bool
     LOWEST <= v && vector_set::contains(allowed, v)
 }
 
-// The level-sensitive vector that is admitted, if one is (4.17).
-fn level_of(d: &[u8], allowed: [u32; 8]) -> Found
-    requires { ⌜ length (now d) ≡ 32 ⌝ }
-    ensures { λ r. ⌜ vectorOf r ≡ admitsLevel allowed (now (d .entry)) ⌝ }
+fn only(so: bool, x: u32) -> u32
+    ensures { λ r. ⌜ r ≡ cond so x 0 ⌝ }
 {
+    if so {
+        return x;
+    }
+    0
+}
+
+// The bit of the vector in bits 7:0 in its word, where it may be named (4.13, 4.22, 4.23).
+fn single_of(allowed: [u32; 8], vector: u8) -> u32
+    ensures { λ r. ⌜ r ≡ singleBit allowed vector ⌝ }
+{
+    only(may_name(allowed, vector), 1 << (vector % 32) as u32)
+}
+
+// What the descriptor asks for beside its marks (4.16, 4.17, 4.19, 4.21 to 4.24).
+pub fn read_request(d: &[u8], allowed: [u32; 8]) -> Requested
+    requires { ⌜ length (now d) ≡ 32 ⌝ }
+    ensures { λ r. ⌜ (r ≡ requestedIn allowed (now (d .entry))) × (r .posting .word < 8) ⌝ }
+{
+    let nmi = nmi_of(d, allowed);
     let vector = d[0];
-    if d[1] & LEVEL != 0 && may_name(allowed, vector) {
-        Found::Vector(vector)
-    } else {
-        Found::Nothing
+    let flags = d[1];
+    let single = single_of(allowed, vector);
+    let level = only(flags & LEVEL != 0, single);
+    let word = (vector / 32) as usize;
+    if flags & MANY != 0 {
+        return Requested {
+            posting: Posting {
+                nmi,
+                word,
+                bits: level,
+            },
+            level,
+            many: true,
+        };
+    }
+    Requested {
+        posting: Posting {
+            nmi,
+            word,
+            bits: single,
+        },
+        level,
+        many: false,
     }
 }
 
-// The edge set where bit 14 is set: the marked vectors 31 to 255 other than the level-sensitive one (4.18).
-fn many_edges(d: &[u8], allowed: [u32; 8], level: Found) -> [u32; 8]
-    requires { ⌜ (length (now d) ≡ 32) × (vectorOf level ≡ admitsLevel allowed (now d)) × (bitOf (now d) manyBit ≡ true) ⌝ }
+// The set of edge vectors where bit 14 is set: the marked vectors 31 to 255 other than the level-sensitive one, which the request has (4.18, 4.24).
+pub fn read_marks(d: &[u8], allowed: [u32; 8], requested: Requested) -> [u32; 8]
+    requires { ⌜ (length (now d) ≡ 32) × (bitOf (now d) manyBit ≡ true) × (requested ≡ requestedIn allowed (now d)) ⌝ }
     ensures { λ r. ⌜ r ≡ collect (admitsEdge allowed (now (d .entry))) ⌝ }
 {
-    let marked = vector_set_algebra::from_lowest(vector_set_algebra::intersection(
+    let posting = requested.posting;
+    let k = posting.word;
+    let mut edge = vector_set_algebra::from_lowest(vector_set_algebra::intersection(
         marks(d),
         allowed,
     ));
-    match level {
-        Found::Vector(v) => vector_set::remove(marked, v),
-        Found::Nothing => marked,
-    }
-}
-
-// The edge set where bit 14 is clear: the one vector, unless it is level-sensitive (4.19).
-fn one_edge(d: &[u8], allowed: [u32; 8]) -> [u32; 8]
-    requires { ⌜ (length (now d) ≡ 32) × (bitOf (now d) manyBit ≡ false) ⌝ }
-    ensures { λ r. ⌜ r ≡ collect (admitsEdge allowed (now (d .entry))) ⌝ }
-{
-    let vector = d[0];
-    let none = vector_set::no_vectors();
-    if d[1] & LEVEL == 0 && may_name(allowed, vector) {
-        vector_set::insert(none, vector)
-    } else {
-        none
-    }
-}
-
-// What the descriptor admits under the allowed set (4.14 to 4.24).
-pub fn read_descriptor(d: &[u8], allowed: [u32; 8]) -> Admitted
-    requires { ⌜ length (now d) ≡ 32 ⌝ }
-    ensures { λ r. ⌜ partOf r ≡ admits allowed (now (d .entry)) ⌝ }
-{
-    let nmi = nmi_of(d, allowed);
-    let level = level_of(d, allowed);
-    if d[1] & MANY != 0 {
-        let edge = many_edges(d, allowed, level);
-        return Admitted { nmi, level, edge };
-    }
-    let edge = one_edge(d, allowed);
-    Admitted { nmi, level, edge }
+    edge[k] = edge[k] & !requested.level;
+    edge
 }

@@ -1,7 +1,7 @@
 -- The page after a notice as code leaves it: the descriptor replaced by what is left of it, and the announcing bit masked out.
 -- Assumes nothing.
 use mathlib.Core.Path.{_≡_, refl, sym, ap, _∙_, subst}
-use mathlib.Core.Bool.{Bool, true, false, not, _&&_, or-false}
+use mathlib.Core.Bool.{Bool, true, false, cond, not, _&&_, or-false, Bool·not-not}
 use mathlib.Core.List.{List}
 use mathlib.Core.Logic.{⊎-elim}
 use Prim.Native.Nat.{ℕ, _+_, _*_, _-_, _/_, _%_, _^_, _<_, _≤_}
@@ -15,7 +15,11 @@ use lib.Pow.{pow-lt}
 use borrow.Author.Tests.{lt-leb, le-leb, lt-ltb, le-ltb, eq-eqb, ne-eqb, eqb-true, eqb-false}
 use Rattle.vector_set.specs.Bits.{bitAt}
 use Rattle.vector_set.proofs.BitLaws.{bit-not, bit-pow}
-use Rattle.model.specs.Doorbell.{bitOf, manyBit, announces, descriptor, Part, noPart, admits, admitted, clearsBit, clears, noticedPage}
+use Rattle.model.specs.Doorbell.{bitOf, manyBit, announces, descriptor, clearsBit, clears, noticedPage}
+use Rattle.descriptor.specs.declared.Requested.{Requested}
+use Rattle.descriptor.specs.Requests.{noRequest, requestedIn}
+use Rattle.doorbell.specs.declared.Taken.{Taken}
+use Rattle.doorbell.specs.Takes.{takenFrom, takenPage}
 use Rattle.doorbell.proofs.Bytes.{split, place, spliced, spliced-length, spliced-before, spliced-in, spliced-after}
 use Rattle.doorbell.specs.Clear.{clearing}
 use Rattle.doorbell.proofs.ClearLaws.{Cleared, cleared-at, clearing-length, is-clearing, keeps, masks}
@@ -152,13 +156,47 @@ module _ (l : ℕ) (many : Bool) (low : 1 ≤ l) (high : l ≤ 3) where
         is-clearing (clears l many) p after
         (length-set lent 3 (bitAnd (getD p 3 0) mask) ∙ lent-length) (λ j h. byte j)
 
--- ---- the two ways out of taking a notice
-module _ (l : ℕ) (a p : List ℕ) {r : Part} where
-  pub unannounced : announces l p ≡ false → r ≡ noPart → (r ≡ admitted l a p) × (p ≡ noticedPage l p)
-  unfolding admitted noticedPage
-  unannounced n e = (rw n e, rw n)
+-- ---- the two ways out of taking what a page asks for
+kept-either : (p : List ℕ) (b : Bool) → p ≡ cond b p p
+kept-either p true = refl
+kept-either p false = refl
 
-  pub announced : {q : List ℕ} → announces l p ≡ true → r ≡ admits a (descriptor l p)
-      → q ≡ clearing (clears l (bitOf (descriptor l p) manyBit)) p → (r ≡ admitted l a p) × (q ≡ noticedPage l p)
-  unfolding admitted noticedPage
-  announced n e f = (rw n e, rw n f)
+module _ (l : ℕ) (a p : List ℕ) {r : Requested} where
+  pub unannounced : announces l p ≡ false → r ≡ noRequest
+      → (_≡_ {A = Taken} (record { announced = false; requested = r }) (takenFrom l a p)) × (r .posting .word < 8) × (p ≡ takenPage l p)
+  unfolding takenFrom takenPage noticedPage noRequest
+  unannounced n e = (rw (n, e), rw e (omega arith), rw n (kept-either p (bitOf (descriptor l p) manyBit)))
+
+  pub announced : announces l p ≡ true → r ≡ requestedIn a (descriptor l p) → _≡_ {A = Taken} (record { announced = true; requested = r }) (takenFrom l a p)
+  unfolding takenFrom
+  announced n e = rw (n, e)
+
+  -- the page is cleared now, or once its marks are taken
+  many-is : {b : Bool} → r ≡ requestedIn a (descriptor l p) → not (r .many) ≡ b → bitOf (descriptor l p) manyBit ≡ not b
+  unfolding requestedIn
+  many-is e f = sym (ap (λ (s : Requested). s .many) e) ∙ sym (Bool·not-not (r .many)) ∙ ap not f
+
+  pub page-left : r ≡ requestedIn a (descriptor l p) → not (r .many) ≡ false → p ≡ takenPage l p
+  unfolding takenPage
+  page-left e f = rw (many-is e f)
+
+  pub page-cleared : {q : List ℕ} → r ≡ requestedIn a (descriptor l p) → not (r .many) ≡ true → q ≡ noticedPage l p → q ≡ takenPage l p
+  unfolding takenPage
+  page-cleared e f g = rw (many-is e f) g
+
+-- a page that announces work is cleared
+pub noticed-is : (l : ℕ) (p : List ℕ) {q : List ℕ} → announces l p ≡ true → q ≡ clearing (clears l (bitOf (descriptor l p) manyBit)) p → q ≡ noticedPage l p
+unfolding noticedPage
+noticed-is l p n f = rw n f
+
+-- the bytes that are lent are those of the descriptor
+pub is-descriptor : (l : ℕ) (p : List ℕ) {k : ℕ} → k ≡ 32 → take k (drop (64 * l) p) ≡ descriptor l p
+unfolding descriptor
+is-descriptor l p e = rw e
+
+pub finish : (l : ℕ) (p ys : List ℕ) {k m : ℕ} → k ≡ 32 → m ≡ 2 ^ (l - 1) → 1 ≤ l → l ≤ 3 → 256 ≤ length p → ((j : ℕ) → getD p j 0 < 256)
+    → ys ≡ clearing (clearsBit (bitOf (take k (drop (64 * l) p)) manyBit)) (take k (drop (64 * l) p))
+    → set (spliced p (64 * l) k ys) 3 (bitAnd (getD p 3 0) (255 - m)) ≡ clearing (clears l (bitOf (descriptor l p) manyBit)) p
+unfolding descriptor
+finish l p ys e f low high long small y =
+    rw (y, e, f) (page-is l (bitOf (take 32 (drop (64 * l) p)) manyBit) low high p long small)

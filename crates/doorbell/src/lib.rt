@@ -1,13 +1,15 @@
-// The doorbell page: what a host notice admits, as `descriptor` reads it, and the page after it.
+// The doorbell page: what a host notice asks for, as `descriptor` reads it, and the page after it.
 ghost use mathlib.Core.Path.{_≡_};
-ghost use Prim.Native.Nat.{_≤_};
+ghost use mathlib.Core.Bool.{true};
+ghost use Prim.Native.Nat.{_<_, _≤_};
 ghost use lib.ListN.{length};
-ghost use Rattle.vector_set.specs.Bits.{one};
-ghost use Rattle.vector_set.specs.Sets.{vectorOf};
-ghost use Rattle.model.specs.Doorbell.{partOf, noPart, isSome, items, admitted, noticedPage};
+ghost use Rattle.vector_set.specs.Sets.{collect};
+ghost use Rattle.model.specs.Doorbell.{bitOf, manyBit, announces, descriptor, admitsEdge, noticedPage};
+ghost use Rattle.descriptor.specs.Requests.{noRequest, requestedIn};
+ghost use Rattle.doorbell.specs.Takes.{takenFrom, takenPage};
 use descriptor::DESCRIPTOR_BYTES;
-use model::Admitted;
-use vector_set::Found;
+use descriptor::Requested;
+use ipi::Posting;
 
 mod clear;
 
@@ -26,50 +28,75 @@ pub const KEPT_FLAGS: u8 = 0xB8;
 // What a notice of many keeps of byte 3: all but bit 31, the mark of the lowest vector (4.32).
 pub const KEPT_MARKS: u8 = 0x7F;
 
-fn one_found(f: Found) -> u32
-    ensures { λ r. ⌜ r ≡ one (isSome (vectorOf f)) ⌝ }
+// What a page asks for beside its marks, if it announces work.
+pub struct Taken {
+    pub announced: bool,
+    pub requested: Requested,
+}
+
+pub fn nothing() -> Requested
+    ensures { λ r. ⌜ r ≡ noRequest ⌝ }
 {
-    match f {
-        Found::Vector(_) => 1,
-        Found::Nothing => 0,
+    Requested {
+        posting: Posting {
+            nmi: false,
+            word: 0,
+            bits: 0,
+        },
+        level: 0,
+        many: false,
     }
 }
 
-// How many items are admitted; the NMI is one of them (4.29).
-pub fn items_of(a: Admitted) -> u32
-    ensures { λ r. ⌜ r ≡ items (partOf a) ⌝ }
-{
-    let level = a.level;
-    let edge = a.edge;
-    a.nmi as u32 + one_found(level) + vector_set_search::count_of(edge)
-}
-
-// What a refused notice admits, and a page that announces nothing (4.20).
-pub fn nothing() -> Admitted
-    ensures { λ r. ⌜ partOf r ≡ noPart ⌝ }
-{
-    let edge = vector_set::no_vectors();
-    Admitted {
-        nmi: false,
-        level: Found::Nothing,
-        edge,
-    }
-}
-
-// Takes what the page of a notice admits (4.14 to 4.24), and clears it in the page (4.31 to 4.33).
-pub fn take_notice(page: &mut [u8], vmpl: u32, allowed: [u32; 8]) -> Admitted
-    requires { ⌜ (256 ≤ length (now page)) × (1 ≤ vmpl) × (vmpl ≤ 3) ⌝ }
-    ensures { λ r. ⌜ (partOf r ≡ admitted vmpl allowed (now (page .entry))) × (now (page .exit) ≡ noticedPage vmpl (now (page .entry))) ⌝ }
+// Clears what was announced and asked for (4.31 to 4.33).
+fn clear_page(page: &mut [u8], vmpl: u32)
+    requires { ⌜ (256 ≤ length (now page)) × (1 ≤ vmpl) × (vmpl ≤ 3) × (announces vmpl (now page) ≡ true) ⌝ }
+    ensures { λ _. ⌜ now (page .exit) ≡ noticedPage vmpl (now (page .entry)) ⌝ }
 {
     let announcements = page[ANNOUNCEMENTS];
     let announced = 1u8 << (vmpl - 1);
-    if announcements & announced == 0 {
-        return nothing();
+    let first = VMPL_BYTES * vmpl as usize;
+    let end = first + DESCRIPTOR_BYTES;
+    clear::clear_descriptor(&mut page[first..end]);
+    page[ANNOUNCEMENTS] = announcements & !announced;
+}
+
+// Takes what the page of a notice asks for beside its marks (4.14 to 4.24), and clears it (4.31). A page with bit 14 is left as it is: its marks
+// are taken next.
+pub fn take_request(page: &mut [u8], vmpl: u32, allowed: [u32; 8]) -> Taken
+    requires { ⌜ (256 ≤ length (now page)) × (1 ≤ vmpl) × (vmpl ≤ 3) ⌝ }
+    ensures { λ r. ⌜ (r ≡ takenFrom vmpl allowed (now (page .entry))) × (r .requested .posting .word < 8)
+        × (now (page .exit) ≡ takenPage vmpl (now (page .entry))) ⌝ }
+{
+    let announced = 1u8 << (vmpl - 1);
+    if page[ANNOUNCEMENTS] & announced == 0 {
+        let requested = nothing();
+        return Taken {
+            announced: false,
+            requested,
+        };
     }
     let first = VMPL_BYTES * vmpl as usize;
     let end = first + DESCRIPTOR_BYTES;
-    let part = descriptor::read_descriptor(&page[first..end], allowed);
-    clear::clear_descriptor(&mut page[first..end]);
-    page[ANNOUNCEMENTS] = announcements & !announced;
-    part
+    let requested = descriptor::read_request(&page[first..end], allowed);
+    if !requested.many {
+        clear_page(page, vmpl);
+    }
+    Taken {
+        announced: true,
+        requested,
+    }
+}
+
+// Takes the marked vectors of a page with bit 14, whose request was taken (4.18), and clears it all (4.31, 4.32).
+pub fn take_marks(page: &mut [u8], vmpl: u32, allowed: [u32; 8], requested: Requested) -> [u32; 8]
+    requires { ⌜ (256 ≤ length (now page)) × (1 ≤ vmpl) × (vmpl ≤ 3) × (announces vmpl (now page) ≡ true)
+        × (bitOf (descriptor vmpl (now page)) manyBit ≡ true) × (requested ≡ requestedIn allowed (descriptor vmpl (now page))) ⌝ }
+    ensures { λ r. ⌜ (r ≡ collect (admitsEdge allowed (descriptor vmpl (now (page .entry))))) × (now (page .exit) ≡ noticedPage vmpl (now (page .entry))) ⌝ }
+{
+    let first = VMPL_BYTES * vmpl as usize;
+    let end = first + DESCRIPTOR_BYTES;
+    let edge = descriptor::read_marks(&page[first..end], allowed, requested);
+    clear_page(page, vmpl);
+    edge
 }

@@ -16,6 +16,7 @@ pub fn send(m: Module, caller: u32, value: u64) -> Stepped
     let n = gate::served(m.n, m.vmpl);
     let targets = ipi::targets_of(value, caller);
     let posting = ipi::posting_of(icr::item_of(value));
+    let w = posting.word;
     let mut after = m;
     let mut mask: u64 = 0;
     let mut k: u32 = 0;
@@ -24,9 +25,11 @@ pub fn send(m: Module, caller: u32, value: u64) -> Stepped
         let v = after.vcpus[j];
         let phase = v.phase;
         if ipi::reaches(targets, k, phase) {
-            let w = items::post(v, posting);
-            after.vcpus[j] = w;
-            mask = mask | (1 << k);
+            let irr = v.irr;
+            let new = ipi::is_new(posting, irr[w], v.nmi);
+            let u = items::post(v, posting);
+            after.vcpus[j] = u;
+            mask = mask | ((new as u64) << k);
         }
         k += 1;
     }

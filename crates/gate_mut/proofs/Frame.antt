@@ -31,7 +31,7 @@ use denote.Triple.End.{Kepts}
 use denote.Triple.Clauses.{Ended, Clauses, closing, ensured, lasts}
 use denote.Triple.Spec.{tripleOf}
 use denote.Triple.Statement.{Contract, Triple}
-pub use Rattle.frame.proofs.Locals.{Blocks, env, contents, rooms, cell, cells, deaths, allocates, frees-all}
+pub use Rattle.frame.proofs.Locals.{Blocks, env, contents, rooms, cell, cells, deaths, allocates, frees-all, frees-with}
 
 module _ {M : Type 1} {𝓤 : URA M} {H : Heap 𝓤} {A : Atoms 𝓤} {K : Type 0} {W : Given 𝓤 H A} {Γ : List (Item 𝓤)} where
   -- ---- whole locals

@@ -1,4 +1,5 @@
 pub mod Address
+pub mod Again
 pub mod Answers
 pub mod OnModule
 pub mod Frame
@@ -11,4 +12,5 @@ pub mod Page
 pub mod Pass
 pub mod Record
 pub mod Served
+pub mod Sets
 pub mod Walk

@@ -107,7 +107,7 @@ abbrev pub paged : {M : Type 1} (𝓤 : URA M) (H : Heap 𝓤) (A : Atoms 𝓤) 
 paged 𝓤 H A W D L σ-is outcome fits =
     record { val = LL.val D L; spells = LL.tells D L; typed = struct-typed 𝓤 H A W D L σ-is; outcome = outcome; fits = fits }
 
-abbrev lentTy : Ty
+abbrev pub lentTy : Ty
 lentTy = tyRef erased mut (tyInt w8)
 
 -- ---- behind the head of `Served.antt`: the page as it is, the locals that hold it and what comes of it
@@ -132,7 +132,7 @@ module _ {M : Type 1} {𝓤 : URA M} (σ : Ty) (b′ o′ n bg bs bw be bl : ℕ
       ∷ ‵ (fat fullShare lentTy be 0 (vptr b′ o′)) ∷ ‵ (fat fullShare (sliceTy lentTy) bl 0 (sliceVal (b′, o′) n)) ∷ Γ
 
 module _ {M : Type 1} {𝓤 : URA M} {H : Heap 𝓤} {A : Atoms 𝓤} {K : Type 0} {W : Given 𝓤 H A} {Γ : List (Item 𝓤)} {E : Env 𝓤 H} {j : ℕ} {τ : Ty} {b : ℕ} where
-  finds-at : K → {st : List _} {sp : Spot 𝓤 H} → Stands 𝓤 H E j τ b → Walks K W Γ E (τ, b, zero) st sp → Finds K W Γ E (place j st) sp
+  pub finds-at : K → {st : List _} {sp : Spot 𝓤 H} → Stands 𝓤 H E j τ b → Walks K W Γ E (τ, b, zero) st sp → Finds K W Γ E (place j st) sp
   finds-at t {st} {sp} s w = from t (subst (λ (p : Spot 𝓤 H). Walks K W Γ E p st sp) (sym s) w)
 
 -- ---- an outcome asked

@@ -11,7 +11,8 @@ use model::Refusal;
 use vcpu::Reply;
 use vcpu_calls::call_vcpu;
 
-// The IPI of the vCPU caller with the ICR value: each record is reached or passed over. The bits of those reached (7.16 to 7.21).
+// The IPI of the vCPU caller with the ICR value: each record is reached or passed over. The bits of those where the item
+// became pending (7.16 to 7.21).
 fn send_in(m: &mut Module, caller: u32, value: u64) -> u64
     ensures { λ r. ⌜ record { mask = r; after = now (m .exit) } ≡ sendBelow caller value (now (m .entry)) (size (now (m .entry))) ⌝ }
 {
@@ -24,9 +25,10 @@ fn send_in(m: &mut Module, caller: u32, value: u64) -> u64
     while k < n {
         let j = k as usize;
         if ipi::reaches(targets, k, m.vcpus[j].phase) {
+            let new = ipi::is_new(posting, m.vcpus[j].irr[w], m.vcpus[j].nmi);
             m.vcpus[j].irr[w] = m.vcpus[j].irr[w] | posting.bits;
             m.vcpus[j].nmi = m.vcpus[j].nmi | posting.nmi;
-            mask = mask | (1 << k);
+            mask = mask | ((new as u64) << k);
         }
         k = k + 1;
     }

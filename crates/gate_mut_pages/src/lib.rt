@@ -1,33 +1,50 @@
 // Notices and hand-backs on a module lent by `&mut`: the page is handled beside the step of one vCPU's record.
 ghost use mathlib.Core.Path.{_≡_};
-ghost use Rattle.model.specs.Events.{Act, at, step, outOf};
+ghost use Rattle.model.specs.Events.{Act, at, step, outOf, noticedOut};
+use doorbell::take_marks;
 use gate::served;
+use ipi::counts_of;
+use model::Admission;
 use model::Module;
 use model::Outcome;
 use model::Refusal;
-use vcpu::notices::notice_vcpu;
+use vcpu::notices::count_marks;
 use vcpu_pages::hand_backs::empty_vcpu;
 use vcpu_pages::hand_backs::hand_over;
 use vcpu_pages::notices::take;
+use vector_set_algebra::union;
 
-// A host notice (section 4; 13.33). The page after it has what was taken cleared.
-pub fn notice_in(m: &mut Module, vcpu: u32, page: &mut [u8]) -> Outcome
-    ensures { λ r. ⌜ outOf (record { outcome = r; after = now (m .exit) })
+// A host notice (section 4; 13.33). The page after it has what was taken cleared. A word of P and of PL and the mark are stored, and P as a
+// whole where marks are taken.
+pub fn notice_in(m: &mut Module, vcpu: u32, page: &mut [u8]) -> Admission
+    ensures { λ r. ⌜ noticedOut (record { admission = r; after = now (m .exit) })
         (now (page .exit)) ≡ step (now (m .entry)) (at vcpu (Act.notice (now (page .entry)))) ⌝ }
 {
     let n = served(m.n, m.vmpl);
     if n <= vcpu {
-        return Outcome::Refused(Refusal::UnknownVcpu);
+        return Admission::Refused(Refusal::UnknownVcpu);
     }
     let i = vcpu as usize;
     let v = m.vcpus[i];
     let taken = take(page, m.vmpl, v.phase, v.allowed);
-    let Outcome::Done(_) = taken.outcome else {
-        return taken.outcome;
-    };
-    let w = notice_vcpu(v, taken.part);
-    m.vcpus[i] = w;
-    taken.outcome
+    if !taken.changes {
+        return taken.admission;
+    }
+    let posting = taken.requested.posting;
+    let w = posting.word;
+    let before = m.vcpus[i].irr[w];
+    m.vcpus[i].irr[w] = m.vcpus[i].irr[w] | posting.bits;
+    m.vcpus[i].nmi = m.vcpus[i].nmi | posting.nmi;
+    m.vcpus[i].irr_level[w] = m.vcpus[i].irr_level[w] | taken.requested.level;
+    if !taken.requested.many {
+        let c = counts_of(posting, before, v.nmi);
+        return Admission::Items(c.new, c.merged);
+    }
+    let edge = take_marks(page, m.vmpl, v.allowed, taken.requested);
+    let irr = m.vcpus[i].irr;
+    let c = count_marks(posting, before, v.nmi, edge, irr);
+    m.vcpus[i].irr = union(irr, edge);
+    Admission::Items(c.new, c.merged)
 }
 
 // A hand-back: what the vCPU has pending and in service goes to the page (section 10; 13.33).

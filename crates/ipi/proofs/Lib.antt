@@ -1,2 +1,3 @@
 pub mod Masks
 pub mod Marks
+pub mod Singles

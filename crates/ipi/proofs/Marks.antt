@@ -1,13 +1,14 @@
 -- A posting makes its item pending. Assumes nothing.
-use mathlib.Core.Path.{_≡_, sym, ap, _∙_}
+use mathlib.Core.Path.{_≡_, refl, sym, ap, _∙_}
 use mathlib.Core.Bool.{Bool, true, false, cond}
 use mathlib.Core.List.{List}
-use Prim.Native.Nat.{ℕ, _/_, _%_, _<_}
+use Prim.Native.Nat.{ℕ, _/_, _%_, _^_, _<_}
 use native.Mathlib.Omega.{arith}
-use lib.Bits.{bitOr, or-zero-r}
+use lib.Bits.{bitOr, or-zero-r, or-add-and, and-le-r}
 use lib.Dec.{eqb}
-use lib.ListN.{getD, set}
-use lib.Seq.{set-getD}
+use lib.ListN.{length, getD, set, length-set}
+use lib.Seq.{set-getD, getD-set-same, getD-set-other}
+use borrow.Author.Tests.{eqb-true, eqb-false}
 use mir.Val.{Val}
 use denote.Laws.{Is}
 use denote.Enum.Laws as EL
@@ -58,3 +59,22 @@ posted-is p v l ws y e = rw e (of y (rw e at l))
         (ap (λ (xs : List ℕ). withIrr xs v)
         (ap (λ (y : ℕ). set (v .irr) (x / 32) (bitOr (getD (v .irr) (x / 32) 0) y)) (sym (one-shl (x % 32) (omega arith)))
         ∙ insert-word (v .irr) x ws (omega (arith, l))))
+
+-- a record's set is eight words if it is with what a posting adds
+pub words-before : (p : Posting) (v : Vcpu) → Words (posted p v .irr) → Words (v .irr)
+words-before p v ws =
+    record {
+      eight = sym (length-set (v .irr) (p .word) (bitOr x (p .bits))) ∙ ws .eight;
+      small = λ i l. pick i l (eqb i (p .word)) refl;
+    }
+  where
+    x : ℕ
+    x = getD (v .irr) (p .word) 0
+
+    pick : (i : ℕ) → i < 8 → (t : Bool) → eqb i (p .word) ≡ t → getD (v .irr) i 0 < 2 ^ 32
+    pick i l true e =
+        let d : i ≡ p .word = eqb-true i (p .word) e in
+        let n : p .word < length (v .irr) = omega (arith, l, d, ws .eight, length-set (v .irr) (p .word) (bitOr x (p .bits))) in
+        let h = rw (d, getD-set-same (v .irr) (p .word) (bitOr x (p .bits)) 0 n) at (ws .small i l) in
+        rw d (omega (arith, h, or-add-and x (p .bits), and-le-r x (p .bits)))
+    pick i l false e = rw (getD-set-other (v .irr) (p .word) i (bitOr x (p .bits)) 0 (eqb-false i (p .word) e)) at (ws .small i l)

@@ -1,15 +1,18 @@
 -- What an item adds to a record: bits of one word of the IRR, and the NMI mark. Assumes nothing.
 use mathlib.Core.Path.{_≡_}
-use mathlib.Core.Bool.{true, false, _||_}
-use Prim.Native.Nat.{_/_, _%_, _^_}
-use lib.Bits.{bitOr}
+use mathlib.Core.Bool.{Bool, true, false, cond, not, _&&_, _||_}
+use Prim.Native.Nat.{ℕ, _+_, _-_, _/_, _%_, _^_}
+use lib.Bits.{bitAnd, bitOr}
+use lib.Dec.{eqb}
 use lib.ListN.{getD, set}
 use Rattle.model.specs.declared.Item.{Item}
 use Rattle.model.specs.declared.Item.the-variants.{Nmi, Vector}
 use Rattle.model.specs.declared.Vcpu.{Vcpu}
 use Rattle.model.specs.State.{withIrr, withNmi}
 use Rattle.model.specs.Items.{mark}
+use Rattle.vector_set.specs.Bits.{one}
 use Rattle.ipi.specs.declared.Posting.{Posting}
+use Rattle.ipi.specs.declared.Counts.{Counts}
 
 -- what makes an item pending: the NMI by its mark, a vector by its bit (7.17)
 unfoldable pub postingOf : Item → Posting
@@ -30,3 +33,19 @@ posted p v = markIn p (wordIn p v)
 -- where p is an item's posting, w is the record v with that item pending (4.27, 7.17)
 abbrev pub Posted : Posting → Vcpu → Vcpu → Type 0
 Posted p v w = (y : Item) → p ≡ postingOf y → w ≡ mark y v
+
+-- ---- a record whose word and mark were x and b before
+-- one of the posting's bits was clear in the word; one was set
+abbrev pub addsBit : Posting → ℕ → Bool
+addsBit p x = not (eqb (bitAnd (p .bits) (2 ^ 32 - 1 - x)) 0)
+
+abbrev pub meetsBit : Posting → ℕ → Bool
+meetsBit p x = not (eqb (bitAnd (p .bits) x) 0)
+
+-- how many items of a posting, which has at most one bit, become pending, and how many were (4.29, 4.37)
+unfoldable pub countsOf : Posting → ℕ → Bool → Counts
+countsOf p x b = record { new = one (p .nmi && not b) + one (addsBit p x); merged = one (p .nmi && b) + one (meetsBit p x) }
+
+-- whether the one item of a posting becomes pending (7.20)
+unfoldable pub isNew : Posting → ℕ → Bool → Bool
+isNew p x b = cond (p .nmi) (not b) (addsBit p x)

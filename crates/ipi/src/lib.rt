@@ -6,7 +6,7 @@ ghost use lib.Dec.{eqb};
 ghost use Rattle.vector_set.specs.Bits.{bitAt, bits};
 ghost use Rattle.model.specs.State.{isActive};
 ghost use Rattle.model.specs.Ipi.{icrTarget, hits};
-ghost use Rattle.ipi.specs.Posts.{postingOf};
+ghost use Rattle.ipi.specs.Posts.{postingOf, countsOf, isNew};
 use model::Item;
 use model::Phase;
 use model::Target;
@@ -16,6 +16,12 @@ pub struct Posting {
     pub nmi: bool,
     pub word: usize,
     pub bits: u32,
+}
+
+// How many items of a posting were not pending where it goes, and how many were.
+pub struct Counts {
+    pub new: u32,
+    pub merged: u32,
 }
 
 // The bit of the vCPU k among 32. A destination may name a vCPU that no module has: then there is none.
@@ -83,4 +89,23 @@ pub fn posting_of(item: Item) -> Posting
             bits: 1 << (v % 32) as u32,
         },
     }
+}
+
+// How many items of a posting become pending at a record whose word and mark were these, and how many were pending (4.29, 4.37).
+pub fn counts_of(posting: Posting, word: u32, nmi: bool) -> Counts
+    ensures { λ r. ⌜ r ≡ countsOf posting word nmi ⌝ }
+{
+    let new = (posting.nmi && !nmi) as u32 + (posting.bits & !word != 0) as u32;
+    let merged = (posting.nmi && nmi) as u32 + (posting.bits & word != 0) as u32;
+    Counts { new, merged }
+}
+
+// Whether the posting of one item makes it pending there (7.20).
+pub fn is_new(posting: Posting, word: u32, nmi: bool) -> bool
+    ensures { λ r. ⌜ r ≡ isNew posting word nmi ⌝ }
+{
+    if posting.nmi {
+        return !nmi;
+    }
+    posting.bits & !word != 0
 }

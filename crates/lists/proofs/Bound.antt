@@ -17,7 +17,7 @@ use Rattle.model.specs.declared.Request.the-variants as request
 use Rattle.model.specs.declared.Vcpu.{Vcpu}
 use Rattle.model.specs.declared.Module.{Module}
 use Rattle.model.specs.State.{isActive, size, vcpuAt, withVcpu}
-use Rattle.model.specs.Codes.{codeOf, accept, refuse, Answer, nothing, presents, window, Result, refused, accepted, presentedIn}
+use Rattle.model.specs.Codes.{codeOf, accept, refuse, Answer, nothing, presents, window, Result, done, counted, refused, accepted, presentedIn}
 use Rattle.model.specs.Items.{InRange, sameItem, isItem, itemInFlight, pending, unmarkAll}
 use Rattle.model.specs.Doorbell.{Part, inPart, admitted}
 use Rattle.model.specs.Ipi.{icrItem, icrTarget, hits, reach, sent}
@@ -52,8 +52,26 @@ pub quiet-read : (j : ℕ) (x : Item) (s : Part) (w : Book) (i op c y : ℕ) (a 
 unfolding postAct
 quiet-read j x s w i op c y a g h = rw (h, and-false (accepted a))
 
+unread-number : (j : ℕ) (x : Item) (s : Part) (w : Book) (i : ℕ) (e : Act Bytes) (a b : ℕ) (g : Ledger)
+    → postAct j x s w i e (done a) g ≡ postAct j x s w i e (done b) g
+unfolding postAct
+unread-number j x s w i (notice p) a b g = refl
+unread-number j x s w i (call op c y) a b g = refl
+unread-number j x s w i (entry iF sh bl) a b g = refl
+unread-number j x s w i nonDelivery a b g = refl
+unread-number j x s w i (handBack p iF sh) a b g = refl
+
+unread-counts : (j : ℕ) (x : Item) (s : Part) (w : Book) (i : ℕ) (e : Act Bytes) (a b c d : ℕ) (g : Ledger)
+    → postAct j x s w i e (counted a b) g ≡ postAct j x s w i e (counted c d) g
+unfolding postAct
+unread-counts j x s w i (notice p) a b c d g = refl
+unread-counts j x s w i (call op k y) a b c d g = refl
+unread-counts j x s w i (entry iF sh bl) a b c d g = refl
+unread-counts j x s w i nonDelivery a b c d g = refl
+unread-counts j x s w i (handBack p iF sh) a b c d g = refl
+
 pub quiet : Quiet
-quiet = record { refusals = quiet-refused; reads = quiet-read }
+quiet = record { refusals = quiet-refused; reads = quiet-read; numbers = unread-number; counts = unread-counts }
 
 -- ---- the invariant: with c pending at first, what was presented and is pending is covered by the ledger g, and what isInFlight is the latest
 module _ (j : ℕ) (x : Item) (r : InRange x) (c : ℕ) where

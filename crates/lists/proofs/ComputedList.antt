@@ -5,25 +5,26 @@ use Rattle.vector_set.specs.Bits.{bits}
 use Rattle.vector_set.specs.Sets.{has, words, collect, empty, full, insert, remove, union, difference}
 use Rattle.vector_set.specs.Sets.{highestBelow, highest, countBelow, count, isEmpty, wordOf}
 use Rattle.model.specs.State.{bare, size, vcpuAt, started, start, stopped, withVcpu, withRegistrations}
-use Rattle.model.specs.Items.{mark, unmark, markAll, unmarkAll}
+use Rattle.model.specs.Items.{itemCount, mark, unmark, markAll, unmarkAll}
 use Rattle.model.specs.Doorbell.{bitOf, bytesFrom, mapBits, announces, descriptor, noPart, admitsNmi, admitsLevel, admitsEdge, admits}
 use Rattle.model.specs.Doorbell.{admitted, items, clearsBit, clears, noticedPage, handedBit, servingBit, handedBytes, written}
 use Rattle.model.specs.Registers.{isRead, isWrite, isBoth, kindOf, pprOf, ppr, ldr, tmr, registerValue, endedAt, ended, endedLevelAt, endedLevel}
 use Rattle.model.specs.Requests.{registration, writeValue, nameable, permission, requestOf, serve, callVerdict}
-use Rattle.model.specs.Events.{noticed, offerHighest, offer, present, entered, emptied, handed, handBackResult}
+use Rattle.model.specs.Events.{noticed, itemsNew, itemsMerged, offerHighest, offer, present, entered, emptied, handed, handBackResult}
 use Rattle.model.specs.Events.{vcpuVerdict, verdict, callEffect, effect, concluded, step, run, giveBack, undelivered}
 use Rattle.lists.specs.Book.{bookOf, recordAt, withRecord, withCount, leavesAtZero, takesOne}
 use Rattle.lists.specs.Book.{addsOne, registers, permits, called, leaves, feedAct, partOn, parts}
 use Rattle.lists.specs.Lists.{results, handBackPages, pages, struck, same, notices, neither, both}
 use Rattle.lists.specs.Ledger.{writeSends, postAct, ledger}
 use Rattle.lists.specs.WorkedList.{listed, paired, judged, WorkedList}
-use Rattle.model.specs.Ipi.{icrReservedClear, icrIsFixed, icrIsNmi, icrLegal, icrItem, icrTarget, hits, reach, mapFrom, sent, reachedBits}
+use Rattle.model.specs.Ipi.{icrReservedClear, icrIsFixed, icrIsNmi, icrLegal, icrItem, icrTarget, hits, reach, mapFrom, sent, newBits}
 
 pub worked-list : WorkedList
 unfolding listed paired judged parts bookOf recordAt withRecord withCount leavesAtZero takesOne addsOne registers permits called leaves feedAct
     partOn results handBackPages pages struck writeSends postAct ledger run giveBack undelivered icrReservedClear icrIsFixed icrIsNmi icrLegal icrItem
-    icrTarget hits reach mapFrom sent reachedBits bits has words collect empty full insert remove union difference highestBelow highest countBelow
-    count isEmpty wordOf bare size vcpuAt started start stopped withVcpu withRegistrations mark unmark markAll unmarkAll bitOf bytesFrom mapBits
+    icrTarget hits reach mapFrom sent newBits itemCount itemsNew itemsMerged bits has words collect empty full insert remove union difference
+    highestBelow highest countBelow count isEmpty wordOf bare size vcpuAt started start stopped withVcpu withRegistrations mark unmark markAll
+    unmarkAll bitOf bytesFrom mapBits
     announces descriptor noPart admitsNmi admitsLevel admitsEdge admits admitted items clearsBit clears noticedPage handedBit servingBit handedBytes
     written isRead isWrite isBoth kindOf pprOf ppr ldr tmr registerValue endedAt ended endedLevelAt endedLevel registration writeValue nameable
     permission requestOf serve callVerdict noticed offerHighest offer present entered emptied handed handBackResult vcpuVerdict verdict callEffect

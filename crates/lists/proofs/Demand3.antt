@@ -1,6 +1,6 @@
 -- Demand 3, proved from any module value and for what start gives.
 -- Assumes nothing.
-use mathlib.Core.Path.{subst}
+use mathlib.Core.Path.{sym, ap, _∙_, subst}
 use mathlib.Core.List.{List}
 use Prim.Native.Nat.{ℕ, _≤_}
 use native.Mathlib.Omega.{arith}
@@ -10,12 +10,13 @@ use Rattle.model.specs.declared.Item.the-variants as item
 use Rattle.model.specs.declared.Module.{Module}
 use Rattle.model.specs.State.{bare, vcpuAt, start}
 use Rattle.model.specs.Items.{InRange, pending}
-use Rattle.model.specs.Doorbell.{admitted}
+use Rattle.model.specs.Doorbell.{admitted, items}
 use Rattle.model.specs.Events.{notice, at, Bytes, Event, effect, concluded, step, final}
 use Rattle.lists.specs.Book.{bookOf, partBy}
 use Rattle.lists.specs.Demand3.{bookAfter, Exact, FromAny, Demand3}
 use Rattle.vector_set.specs.Bits.{one}
 use Rattle.vector_set.proofs.Laws.{has-empty}
+use Rattle.model.proofs.NoticeCounts.{items-sum}
 use Rattle.model.proofs.Stored.{by-verdict}
 use Rattle.lists.proofs.Follow.{follow-all, struck-book, part-accepted, part-refused}
 use Rattle.model.proofs.Stays.{vmpl-final}
@@ -24,13 +25,14 @@ use Rattle.lists.proofs.Parts.{part-fits}
 use Rattle.lists.proofs.Bound.{bounded}
 use Rattle.model.proofs.Reached.{everywhere-start}
 
--- ---- an accepted notice admits by the book what it admits by the record, and gives the number of its items; a refused one admits nothing
+-- ---- an accepted notice admits by the book what it admits by the record, and its numbers add up to that of its items; a refused one admits nothing
 exact-at : (m : Module) (i : ℕ) (p : Bytes)
     → Exact (step m (at i (notice p)) .result) (partBy (m .vmpl) (bookOf m) (at i (notice p))) (admitted (m .vmpl) (vcpuAt m i .allowed) p)
 unfolding concluded effect
 exact-at m i p =
     by-verdict m (at i (notice p)) (λ o. Exact (o .result) (partBy (m .vmpl) (bookOf m) (at i (notice p))) (admitted (m .vmpl) (vcpuAt m i .allowed) p))
-    (λ c h. part-refused m i p c h) (λ h. (rw (part-accepted m i p h), part-accepted m i p h))
+    (λ c h. part-refused m i p c h)
+    (λ h. (items-sum (m .vmpl) (vcpuAt m i .allowed) p (vcpuAt m i) ∙ ap items (sym (part-accepted m i p h)), part-accepted m i p h))
 
 exact-after : (m : Module) (es : List Event) (i : ℕ) (p : Bytes)
     → Exact (step (final m es) (at i (notice p)) .result) (partBy (m .vmpl) (bookAfter m es) (at i (notice p)))

@@ -7,7 +7,7 @@ use Prim.Native.Nat.{ℕ, _+_, _≤_}
 use Rattle.model.specs.declared.Item.{Item}
 use Rattle.model.specs.declared.Module.{Module}
 use Rattle.model.specs.State.{vcpuAt, start}
-use Rattle.model.specs.Codes.{Result, done, answers, refused}
+use Rattle.model.specs.Codes.{Result, done, counted, answers, refused}
 use Rattle.model.specs.Items.{InRange, IsVector, memberOf, pending}
 use Rattle.model.specs.Doorbell.{Part, inPart, noPart, admitted, items}
 use Rattle.model.specs.Events.{notice, at, Bytes, Event, step, final}
@@ -21,10 +21,11 @@ use Rattle.vector_set.specs.Sets.{has}
 abbrev pub bookAfter : Module → List Event → Book
 bookAfter m es = feedAll (bookOf m) (map note es)
 
--- the result of a notice, what it admits by the book, s, and by the record, t: an accepted one admits the same and gives its number of items,
--- a refused one admits nothing (13.24, 13.25)
+-- the result of a notice, what it admits by the book, s, and by the record, t: an accepted one admits the same, and its two numbers add up to
+-- that of its items; a refused one admits nothing (13.24, 13.25)
 abbrev pub Exact : Result → Part → Part → Type 0
-Exact (done x) s t = (x ≡ items s) × (s ≡ t)
+Exact (done x) s t = ⊥
+Exact (counted a b) s t = (a + b ≡ items s) × (s ≡ t)
 Exact (answers a) s t = ⊥
 Exact (refused c) s t = s ≡ noPart
 

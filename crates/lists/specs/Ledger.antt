@@ -13,7 +13,7 @@ use Rattle.model.specs.declared.Target.{Target}
 use Rattle.model.specs.declared.Target.the-variants.{Caller}
 use Rattle.model.specs.declared.Module.{Module}
 use Rattle.model.specs.State.{isActive, vcpuAt}
-use Rattle.model.specs.Codes.{Result, refused, accepted, presentedBy}
+use Rattle.model.specs.Codes.{Result, done, counted, refused, accepted, presentedBy}
 use Rattle.model.specs.Items.{sameItem, isItem, itemInFlight}
 use Rattle.model.specs.Doorbell.{Part, inPart}
 use Rattle.model.specs.Ipi.{icrItem, icrTarget, hits}
@@ -88,3 +88,9 @@ pub record Quiet : Type 0 where
       → postAct j x s w i a (refused c) g ≡ g
   pub reads : (j : ℕ) (x : Item) (s : Part) (w : Book) (i op c y : ℕ) (a : Result) (g : Ledger) → eqb op 3 ≡ false
       → postAct j x s w i (call op c y) a g ≡ g
+  -- nor are the numbers of an answer read: an IPI is sent to every target active in the book, named in its answer or not, and a notice admits what was
+  -- pending too (12.19, 12.21)
+  pub numbers : (j : ℕ) (x : Item) (s : Part) (w : Book) (i : ℕ) (e : Act Bytes) (a b : ℕ) (g : Ledger)
+      → postAct j x s w i e (done a) g ≡ postAct j x s w i e (done b) g
+  pub counts : (j : ℕ) (x : Item) (s : Part) (w : Book) (i : ℕ) (e : Act Bytes) (a b c d : ℕ) (g : Ledger)
+      → postAct j x s w i e (counted a b) g ≡ postAct j x s w i e (counted c d) g

@@ -9,11 +9,11 @@ use lib.ListN.{length, set}
 use Rattle.model.specs.declared.Item.{Item}
 use Rattle.model.specs.declared.Item.the-variants as item
 use Rattle.model.specs.State.{start}
-use Rattle.model.specs.Codes.{Answer, nothing, presents, window, Result, done, answers, refused}
+use Rattle.model.specs.Codes.{Answer, nothing, presents, window, Result, done, counted, answers, refused}
 use Rattle.model.specs.Items.{isItem}
 use Rattle.model.specs.Doorbell.{items}
 use Rattle.model.specs.Events.{notice, call, entry, nonDelivery, handBack, at, Event}
-use Rattle.model.specs.Cases.{sameNumbers, gives, isRefused, isIdle, zeros, announcing, byte64, every}
+use Rattle.model.specs.Cases.{sameNumbers, gives, counts, isRefused, isIdle, zeros, announcing, byte64, every}
 use Rattle.model.specs.Worked.{eoi, icr, isShown, isWindow, answersBy, enters}
 use Rattle.lists.specs.Book.{bookOf, parts}
 use Rattle.lists.specs.Lists.{results, pages, struck, AllAlike}
@@ -45,6 +45,7 @@ sameAnswer (window v) b = isWindow v b
 
 abbrev sameResult : Result → Result → Bool
 sameResult (done x) r = gives x r
+sameResult (counted a b) r = counts a b r
 sameResult (answers a) r = answersBy (sameAnswer a) r
 sameResult (refused c) r = isRefused c r
 
@@ -70,7 +71,7 @@ tallies = ledgerOf (start 1 1) 0 (item.Vector 0x41) story
 unfoldable pub listed : List Bool
 listed =
     sameResults (results (start 1 1) story)
-    (done 0 ∷ done 1 ∷ shown41 ∷ done 0 ∷ shown41 ∷ done 1 ∷ refused 0x80000005 ∷ done 0 ∷ shown41 ∷ refused 2 ∷ refused 1 ∷ done 0 ∷ done 65537 ∷ [])
+    (done 0 ∷ counted 1 0 ∷ shown41 ∷ done 0 ∷ shown41 ∷ done 1 ∷ refused 0x80000005 ∷ done 0 ∷ shown41 ∷ refused 2 ∷ refused 1 ∷ done 0 ∷ done 65537 ∷ [])
     ∷ samePages (pages (start 1 1) story) (set zeros 104 0x02 ∷ [])
     ∷ eqb (length (struck story)) 11
     ∷ eqb (tallies .presented) 3
@@ -115,7 +116,7 @@ tells j x ns =
 unfoldable pub paired : List Bool
 paired =
     sameResults (results (start 2 1) pair)
-    (done 0 ∷ done 1 ∷ done 2 ∷ shownNmi ∷ done 0 ∷ shownNmi ∷ done 3 ∷ done 0 ∷ done 2 ∷ done 65537 ∷ done 0 ∷ done 65538 ∷ [])
+    (done 0 ∷ counted 1 0 ∷ done 2 ∷ shownNmi ∷ done 0 ∷ shownNmi ∷ done 3 ∷ done 0 ∷ done 0 ∷ done 65537 ∷ done 0 ∷ done 65538 ∷ [])
     ∷ samePages (pages (start 2 1) pair) (set (set zeros 65 0x41) 72 0x02 ∷ set (set zeros 65 0x40) 72 0x02 ∷ [])
     ∷ tells 0 item.Nmi (0 ∷ 1 ∷ 0 ∷ 0 ∷ [])
     ∷ tells 1 item.Nmi (2 ∷ 0 ∷ 1 ∷ 1 ∷ [])

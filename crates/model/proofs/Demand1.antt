@@ -20,7 +20,7 @@ use Rattle.model.specs.declared.Request.the-variants as request
 use Rattle.model.specs.declared.Vcpu.{Vcpu}
 use Rattle.model.specs.declared.Module.{Module}
 use Rattle.model.specs.State.{isActive, isLeaving, isInFlight, size, vcpuAt, mayStart, started, stopped, start}
-use Rattle.model.specs.Codes.{codeOf, Verdict, accept, refuse, need, Result, done, answers, refused, accepted, refusalOf}
+use Rattle.model.specs.Codes.{codeOf, Verdict, accept, refuse, need, Result, done, counted, answers, refused, accepted, refusalOf}
 use Rattle.model.specs.Registers.{within, isRead, isWrite, isBoth, kindOf}
 use Rattle.model.specs.Ipi.{icrLegal}
 use Rattle.model.specs.Requests.{bad, registration, readBy, writeBy, writeValue, nameable, permission, requestOf, forget, serve, callVerdict}
@@ -238,6 +238,7 @@ refused-keeps m e h = go (step m e .result) refl h
   where
     go : (r : Result) → step m e .result ≡ r → accepted r ≡ false → (next m e ≡ m) × (step m e .page ≡ pageOf (e .act))
     go (done x) p q = clash (cc)
+    go (counted a b) p q = clash (cc)
     go (answers a) p q = clash (cc)
     go (refused c) p q = unchanged m e c p
 
@@ -264,6 +265,7 @@ unstarted n l c e = pick (mayStart n l) e
 -- ---- every event gets code 1
 named : (r : Result) (c : ℕ) → refusalOf r ≡ some c → r ≡ refused c
 named (done x) c e = clash (cc)
+named (counted a b) c e = clash (cc)
 named (answers a) c e = clash (cc)
 named (refused d) c e = cc
 

@@ -19,9 +19,11 @@ use Rattle.vector_set.proofs.Laws.{clash}
 use Rattle.model.proofs.Stored.{needed}
 use Rattle.model.proofs.Reached.{AllSound, all-reached}
 use Rattle.model.proofs.ReadBack.{read-back}
-use Rattle.model.proofs.Kept.{keeps-level, calls-keep-level, calls-keep-pending, keeps-inactive}
+use Rattle.model.proofs.Kept.{keeps-level, calls-keep-level, calls-keep-pending, keeps-inactive, keeps-beyond}
 use Rattle.model.proofs.IcrBits.{reserved, set-apart, same-delivery}
 use Rattle.model.proofs.IcrWrites.{same-write, icr-reads, icr-touches}
+use Rattle.model.proofs.NoticeCounts.{notice-new, notice-sum, notice-pends}
+use Rattle.model.proofs.IpiNames.{icr-names, self-names, icr-reaches, self-reaches, self-touches}
 
 -- ---- what acceptance tells
 -- a vCPU is below n only where L is 1 to 3
@@ -71,4 +73,13 @@ demand2 =
       sameWrite = same-write;
       icrReads = icr-reads;
       icrTouches = icr-touches;
+      noticeNew = notice-new;
+      noticeSum = notice-sum;
+      icrNames = icr-names;
+      selfNames = self-names;
+      icrReaches = icr-reaches;
+      noticePends = notice-pends;
+      selfReaches = self-reaches;
+      selfTouches = self-touches;
+      keepsBeyond = keeps-beyond;
     }

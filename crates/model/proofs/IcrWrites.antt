@@ -31,17 +31,17 @@ use Rattle.model.proofs.IcrBits.{same-delivery}
 
 -- ---- a write
 -- what an event without a page gives, by its verdict
-abbrev over : Verdict → Effect → ℕ → Module → Out
+abbrev pub over : Verdict → Effect → ℕ → Module → Out
 over accept f i m = concluded f i m
 over (refuse c) f i m = refusal c m []
 
 -- what the vCPU i gets that asks for r
-abbrev asks : Module → ℕ → Request → Out
+abbrev pub asks : Module → ℕ → Request → Out
 asks m i r =
     over (need (ltb i (size m)) UnknownVcpu (need (isActive (vcpuAt m i .phase)) NotActive (callVerdict r i (m .registrations) (forget (vcpuAt m i)))))
     (callEffect r i (m .registrations) (vcpuAt m i)) i m
 
-by-request : (m : Module) (i op c x : ℕ) → step m (at i (call op c x)) ≡ asks m i (requestOf op c x)
+pub by-request : (m : Module) (i op c x : ℕ) → step m (at i (call op c x)) ≡ asks m i (requestOf op c x)
 unfolding step verdict vcpuVerdict effect
 by-request m i op c x = pick (verdict m (at i (call op c x)))
   where
@@ -100,7 +100,7 @@ same-asks m i x y true p q = pick (ltb i (size m)) (isActive (vcpuAt m i .phase)
     pick : (a c : Bool)
         → Same i (over (need a UnknownVcpu (need c NotActive accept)) (reply x) i m) (over (need a UnknownVcpu (need c NotActive accept)) (reply y) i m)
     pick true true = (
-      rw q,
+      rw (p, q),
       rw (p, q)
           (sent-aside (icrItem y) (icrTarget y) m i (m .registrations) x (forget (vcpuAt m i))
           ∙ sym (sent-aside (icrItem y) (icrTarget y) m i (m .registrations) y (forget (vcpuAt m i)))),
@@ -126,7 +126,7 @@ unfolding callVerdict serve callEffect concluded registerValue requestOf kindOf 
 reads-at u i z a c = ap (λ (o : Out). o .result) (by-request u i 2 0x830 z) ∙ rw (a, c)
 
 -- an accepted write sends its value
-sends-value : (m : Module) (i x : ℕ) → verdict m (writesIcr i x) ≡ accept → requestOf 3 0x830 x ≡ request.Icr x
+pub sends-value : (m : Module) (i x : ℕ) → verdict m (writesIcr i x) ≡ accept → requestOf 3 0x830 x ≡ request.Icr x
 unfolding verdict vcpuVerdict callVerdict
 sends-value m i x p = pick (icrLegal x) refl
   where
@@ -139,11 +139,11 @@ sends-value m i x p = pick (icrLegal x) refl
         clash (cc)
 
 -- the module after it
-abbrev writtenAfter : Module → ℕ → ℕ → Module
+abbrev pub writtenAfter : Module → ℕ → ℕ → Module
 writtenAfter m i x =
     sent (icrItem x) (icrTarget x) i (withRegistrations (m .registrations) (withVcpu m i (withIcr x (forget (vcpuAt m i)))))
 
-after-write : (m : Module) (i x : ℕ) → requestOf 3 0x830 x ≡ request.Icr x → concluded (effectOf m (writesIcr i x)) i m .after ≡ writtenAfter m i x
+pub after-write : (m : Module) (i x : ℕ) → requestOf 3 0x830 x ≡ request.Icr x → concluded (effectOf m (writesIcr i x)) i m .after ≡ writtenAfter m i x
 unfolding effect callEffect concluded
 after-write m i x e = rw e
 

@@ -1,12 +1,14 @@
--- What an event keeps, of every module value: PL and what is pending under a guest call, the members of PL under a request, and the record of a vCPU
--- that is not active.
+-- What an event keeps, of every module value: PL and what is pending under a guest call, the members of PL under a request, the record of a vCPU
+-- that is not active, and what stands at n and above.
 -- Assumes nothing.
 use mathlib.Core.Path.{_≡_, refl, sym, ap, _∙_, subst}
 use mathlib.Core.Bool.{Bool, true, false, cond, _&&_, _||_, or-true}
 use mathlib.Core.List.{List}
 use mathlib.Core.Option.{Option, none, some}
-use Prim.Native.Nat.{ℕ, _<_, _-_}
+use Prim.Native.Nat.{ℕ, _<_, _≤_, _-_}
+use native.Mathlib.Omega.{arith}
 use lib.Dec.{ltb, eqb}
+use borrow.Author.Tests.{le-ltb, ltb-true, ne-eqb}
 use Rattle.model.specs.declared.Item.{Item}
 use Rattle.model.specs.declared.Item.the-variants as item
 use Rattle.model.specs.declared.Target.{Target}
@@ -16,7 +18,7 @@ use Rattle.model.specs.declared.Request.{Request}
 use Rattle.model.specs.declared.Request.the-variants as request
 use Rattle.model.specs.declared.Vcpu.{Vcpu}
 use Rattle.model.specs.declared.Module.{Module}
-use Rattle.model.specs.State.{isActive, size, vcpuAt}
+use Rattle.model.specs.State.{isActive, size, vcpuAt, withVcpu}
 use Rattle.model.specs.Doorbell.{Part, isLevel, admitted}
 use Rattle.model.specs.Registers.{endedAt, ended}
 use Rattle.model.specs.Ipi.{icrItem, icrTarget, hits, reach}
@@ -28,7 +30,7 @@ use Rattle.model.specs.Causes.{isHandBack}
 use Rattle.model.specs.Demand2.{isRequest}
 use Rattle.vector_set.specs.Sets.{has, highest}
 use Rattle.vector_set.proofs.Laws.{clash, has-collect}
-use Rattle.model.proofs.Stored.{on-put, by-reach, vcpuAt-count, vcpuAt-sent, by-verdict, known-of, servedIn}
+use Rattle.model.proofs.Stored.{on-put, by-reach, vcpuAt-count, vcpuAt-sent, size-put, size-count, by-verdict, known-of, servedIn}
 use Rattle.model.proofs.ItemLaws.{pending-mark, rest-mark}
 
 -- ---- what a guest call keeps: whatever is said of the NMI mark, P and PL, and stays true where an item becomes pending
@@ -173,3 +175,24 @@ keeps-inactive m e j h b =
     (on-put m (e .vcpu) (effectOf m e .vcpu) j (k .there) (λ _ t u v. isActive (u .phase) ≡ false → (isHandBack (e .act) && t) ≡ false → v ≡ u)
     (λ q r. own-phase (e .act) (vcpuAt m (e .vcpu)) (k .phase) q r) (λ q r. refl) h b)) in
     inactive-delivered (effectOf m e .reply) (e .vcpu) _ j (ap (λ (v : Vcpu). isActive (v .phase)) s ∙ h) ∙ s)
+
+-- ---- no event changes a place at n or above
+beyond-delivered : (r : Reply) (i : ℕ) (m : Module) (j : ℕ) → size m ≤ j → vcpuAt (deliver r i m) j ≡ vcpuAt m j
+unfolding reach
+beyond-delivered (gives r) i m j h = refl
+beyond-delivered (sends y) i m j h = vcpuAt-sent (icrItem y) (icrTarget y) i m j ∙ rw (le-ltb j (size m) h)
+
+pub keeps-beyond : (m : Module) (e : Event) (j : ℕ) → size m ≤ j → vcpuAt (next m e) j ≡ vcpuAt m j
+unfolding concluded
+keeps-beyond m e j h =
+    by-verdict m e (λ o. vcpuAt (o .after) j ≡ vcpuAt m j) (λ c p. refl)
+    (λ p. let k = known-of m (e .vcpu) (e .act) p in
+    let n : eqb j (e .vcpu) ≡ false = ne-eqb j (e .vcpu) (λ (q : j ≡ e .vcpu). above q (ltb-true (e .vcpu) (size m) (k .below))) in
+    let s : vcpuAt (store (effectOf m e) (e .vcpu) m) j ≡ vcpuAt m j =
+    (rw (vcpuAt-count)
+    (on-put m (e .vcpu) (effectOf m e .vcpu) j (k .there) (λ _ t u v. t ≡ false → v ≡ u) (λ q. clash (cc)) (λ q. refl) n)) in
+    beyond-delivered (effectOf m e .reply) (e .vcpu) _ j
+    (rw (size-count (effectOf m e .registrations) (withVcpu m (e .vcpu) (effectOf m e .vcpu)), size-put m (e .vcpu) (effectOf m e .vcpu)) h) ∙ s)
+  where
+    above : j ≡ e .vcpu → e .vcpu < size m → ⊥
+    above q l = omega arith

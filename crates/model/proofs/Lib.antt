@@ -11,6 +11,8 @@ pub mod Reached
 pub mod Kept
 pub mod IcrBits
 pub mod IcrWrites
+pub mod NoticeCounts
+pub mod IpiNames
 pub mod ReadBack
 pub mod Demand1
 pub mod Demand2

@@ -5,10 +5,10 @@ use mathlib.Core.Bool.{Bool, true, false, cond, _&&_, and-false}
 use mathlib.Core.List.{List, [], _∷_}
 use Prim.Native.Nat.{ℕ, zero, suc, _+_, _<_, _≤_, zero-le}
 use native.Mathlib.Omega.{arith}
-use lib.Dec.{ltb, eqb}
+use lib.Dec.{leb, ltb, eqb}
 use lib.ListN.{length, getD, List·getD-eq-default}
 use lib.Seq.{getD-set-same, getD-set-other}
-use borrow.Author.Tests.{eqb-true, eqb-false, ltb-true, ltb-false}
+use borrow.Author.Tests.{eqb-true, eqb-false, leb-true, ltb-true, ltb-false}
 use Rattle.model.specs.declared.Phase.{Phase}
 use Rattle.model.specs.declared.Phase.the-variants.{Left}
 use Rattle.model.specs.declared.Item.{Item}
@@ -47,6 +47,16 @@ size-put m i v = refl
 pub size-count : (k : ℕ) (m : Module) → size (withRegistrations k m) ≡ size m
 unfolding size withRegistrations
 size-count k m = refl
+
+pub size-le : (m : Module) → size m ≤ 32
+unfolding size
+size-le m = pick (leb (m .n) 32) (leb 1 (m .vmpl)) (leb (m .vmpl) 3) refl
+  where
+    pick : (a b c : Bool) → leb (m .n) 32 ≡ a → cond (a && b && c) (m .n) 0 ≤ 32
+    pick true true true e = leb-true (m .n) 32 e
+    pick true true false e = omega arith
+    pick true false c e = omega arith
+    pick false b c e = omega arith
 
 -- the same count stored changes nothing
 pub count-same : (m : Module) (i : ℕ) (v : Vcpu) → withRegistrations (m .registrations) (withVcpu m i v) ≡ withVcpu m i v

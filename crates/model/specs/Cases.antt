@@ -12,7 +12,7 @@ use Rattle.model.specs.declared.Module.{Module}
 use Rattle.vector_set.specs.Sets.{empty, full, insert}
 use Rattle.model.specs.Items.{isVectorItem}
 use Rattle.model.specs.State.{vcpuAt, start, withVcpu, withAllowed, withIrr, withIsr, withTpr, withPhase}
-use Rattle.model.specs.Codes.{Answer, nothing, presents, window, Result, done, answers, refused}
+use Rattle.model.specs.Codes.{Answer, nothing, presents, window, Result, done, counted, answers, refused}
 use Rattle.model.specs.Events.{notice, call, entry, handBack, at, Event, Out, step, next}
 
 -- ---- tests that compute
@@ -25,11 +25,20 @@ sameNumbers (x ∷ xs) (y ∷ ys) = eqb x y && sameNumbers xs ys
 -- accepted with the number x
 abbrev pub gives : ℕ → Result → Bool
 gives x (done y) = eqb x y
+gives x (counted a b) = false
 gives x (answers a) = false
 gives x (refused c) = false
 
+-- a notice accepted with the numbers x and y
+abbrev pub counts : ℕ → ℕ → Result → Bool
+counts x y (done z) = false
+counts x y (counted a b) = eqb x a && eqb y b
+counts x y (answers a) = false
+counts x y (refused c) = false
+
 abbrev pub isRefused : ℕ → Result → Bool
 isRefused c (done x) = false
+isRefused c (counted a b) = false
 isRefused c (answers a) = false
 isRefused c (refused d) = eqb c d
 
@@ -40,6 +49,7 @@ isIdle (window v) = false
 
 abbrev pub isNothing : Result → Bool
 isNothing (done x) = false
+isNothing (counted a b) = false
 isNothing (answers a) = isIdle a
 isNothing (refused c) = false
 
@@ -50,6 +60,7 @@ showsVector v (window w) = false
 
 abbrev pub isPresented : ℕ → Result → Bool
 isPresented v (done x) = false
+isPresented v (counted a b) = false
 isPresented v (answers a) = showsVector v a
 isPresented v (refused c) = false
 
@@ -104,15 +115,15 @@ handedOver = step (having (withPhase Leaving (withIrr (singleton 0x41) record0))
 unfoldable pub cases : List Bool
 cases =
     -- 14.4: result, P, page
-    gives 1 (onPage (singleton 0x41) byte64 .result)
+    counts 1 0 (onPage (singleton 0x41) byte64 .result)
     ∷ sameNumbers (pendingAfter (onPage (singleton 0x41) byte64)) (singleton 0x41)
     ∷ sameNumbers (onPage (singleton 0x41) byte64 .page) zeros
     -- 14.5: result, P, page
-    ∷ gives 0 (onPage empty byte64 .result)
+    ∷ counts 0 0 (onPage empty byte64 .result)
     ∷ sameNumbers (pendingAfter (onPage empty byte64)) empty
     ∷ sameNumbers (onPage empty byte64 .page) zeros
     -- 14.6: result, page
-    ∷ gives 0 (onPage (singleton 0x41) (set zeros 64 0x41) .result)
+    ∷ counts 0 0 (onPage (singleton 0x41) (set zeros 64 0x41) .result)
     ∷ sameNumbers (onPage (singleton 0x41) (set zeros 64 0x41) .page) (set zeros 64 0x41)
     -- 14.7
     ∷ sameNumbers (pendingAfter (onPage full (set (set (set announcing 64 0x50) 65 0x40) 72 0x02))) (singleton 0x41)

@@ -10,6 +10,8 @@ use Rattle.model.specs.declared.Refusal.the-variants.{UnknownVcpu, Short
 use Rattle.model.specs.declared.Refusal.the-variants.{UnknownCall, BadRegister, BadParameter, RegistrationsFull, NotRegistered}
 use Rattle.model.specs.declared.Outcome.{Outcome}
 use Rattle.model.specs.declared.Outcome.the-variants as outcome
+use Rattle.model.specs.declared.Admission.{Admission}
+use Rattle.model.specs.declared.Admission.the-variants as admission
 use Rattle.model.specs.declared.Presentation.{Presentation}
 use Rattle.model.specs.declared.Presentation.the-variants as presentation
 
@@ -45,9 +47,12 @@ pub data Answer : Type 0 where
   presents : Item → Answer
   window : ℕ → Answer
 
--- accepted with its number, an entry's answer, or refused with its code: a refusal is told from an accepted result of the same number (1.19, 11.20)
+-- accepted with its number, a notice's two numbers, an entry's answer, or refused with its code: a refusal is told from an accepted result of
+-- the same number (1.19, 11.20)
 pub data Result : Type 0 where
   done : ℕ → Result
+  -- how many of its items are new, and how many were merged (4.29, 4.37)
+  counted : ℕ → ℕ → Result
   answers : Answer → Result
   refused : ℕ → Result
 
@@ -55,6 +60,11 @@ pub data Result : Type 0 where
 abbrev pub resultOf : Outcome → Result
 resultOf (outcome.Done x) = done x
 resultOf (outcome.Refused c) = refused (codeOf c)
+
+-- what a notice's admission says (4.29, 4.37, 13.9)
+abbrev pub admissionResult : Admission → Result
+admissionResult (admission.Items a b) = counted a b
+admissionResult (admission.Refused c) = refused (codeOf c)
 
 -- what an entry's presentation says (8.5, 13.9)
 abbrev pub presentedResult : Presentation → Result
@@ -68,12 +78,14 @@ presentedResult (presentation.Refused c) = refused (codeOf c)
 -- the event was accepted (12.23)
 abbrev pub accepted : Result → Bool
 accepted (done x) = true
+accepted (counted a b) = true
 accepted (answers a) = true
 accepted (refused c) = false
 
 -- the code with which it refuses, if it does
 abbrev pub refusalOf : Result → Option ℕ
 refusalOf (done x) = none
+refusalOf (counted a b) = none
 refusalOf (answers a) = none
 refusalOf (refused c) = some c
 
@@ -86,5 +98,6 @@ presentedIn (window v) = none
 -- the item that an event presented (12.23)
 abbrev pub presentedBy : Result → Option Item
 presentedBy (done x) = none
+presentedBy (counted a b) = none
 presentedBy (answers a) = presentedIn a
 presentedBy (refused c) = none

@@ -1,22 +1,23 @@
--- Demand 2: the gate is what kernels expect (13.6 to 13.18, 13.35 to 13.41). That each event's result, module and page are those of
+-- Demand 2: the gate is what kernels expect (13.6 to 13.18, 13.35 to 13.50). That each event's result, module and page are those of
 -- `step` and `start` is said by the functions' contracts; here is what else is claimed of them.
 -- Assumes nothing.
 use mathlib.Core.Path.{_≡_}
-use mathlib.Core.Bool.{Bool, true, false, cond, _&&_, _||_}
+use mathlib.Core.Bool.{Bool, true, false, cond, not, _&&_, _||_}
 use mathlib.Core.List.{List}
-use Prim.Native.Nat.{ℕ, _^_, _<_}
+use Prim.Native.Nat.{ℕ, _+_, _^_, _<_, _≤_}
 use lib.Bits.{bitOr}
 use lib.Dec.{eqb}
 use Rattle.model.specs.declared.Item.{Item}
+use Rattle.model.specs.declared.Item.the-variants.{Vector}
 use Rattle.model.specs.declared.InFlight.the-variants.{Nothing}
 use Rattle.model.specs.declared.Vcpu.{Vcpu}
 use Rattle.model.specs.declared.Module.{Module}
-use Rattle.model.specs.State.{isActive, vcpuAt, start, withVcpu, withIcr, withFlight}
-use Rattle.model.specs.Codes.{done}
-use Rattle.model.specs.Items.{InRange, pending, unmarkAll}
-use Rattle.model.specs.Doorbell.{mapBits, announcingBit, Part, admitted}
+use Rattle.model.specs.State.{isActive, size, vcpuAt, start, withVcpu, withIcr, withFlight}
+use Rattle.model.specs.Codes.{done, counted}
+use Rattle.model.specs.Items.{InRange, itemCount, pending, unmarkAll}
+use Rattle.model.specs.Doorbell.{mapBits, announcingBit, Part, inPart, admitted, items}
 use Rattle.model.specs.Registers.{within}
-use Rattle.model.specs.Ipi.{icrLegal, icrItem, icrTarget}
+use Rattle.model.specs.Ipi.{icrLegal, icrItem, icrTarget, reached as isReached}
 use Rattle.model.specs.Events.{Act, notice, call, entry, nonDelivery, handBack, at, Bytes, Event, step, next, final}
 use Rattle.model.specs.Causes.{isHandBack}
 use Rattle.model.specs.Reached.{Sound}
@@ -60,6 +61,10 @@ pub record SameDelivery (x y : ℕ) : Type 0 where
 -- the vCPU i writes x to the ICR
 abbrev pub writesIcr : ℕ → ℕ → Event
 writesIcr i x = at i (call 3 0x830 x)
+
+-- the vCPU i writes x to the self-IPI register
+abbrev pub sendsSelf : ℕ → ℕ → Event
+sendsSelf i x = at i (call 3 0x83F x)
 
 -- a module with x in the ICR of the vCPU i
 abbrev pub withIcrAt : ℕ → ℕ → Module → Module
@@ -106,3 +111,27 @@ pub record Demand2 : Type 0 where
   -- of every module value: P and the NMI mark apart, an accepted write changes the caller's ICR and what is in flight there, and no other record (13.40)
   pub icrTouches : (m : Module) (i x j r : ℕ) → step m (writesIcr i x) .result ≡ done r
       → unmarkAll (vcpuAt (next m (writesIcr i x)) j) ≡ unmarkAll (cond (eqb j i) (withIcr x (withFlight Nothing (vcpuAt m j))) (vcpuAt m j))
+  -- of every module value: a notice's first number counts the items that were not pending at its vCPU before it and are after it (13.42)
+  pub noticeNew : (m : Module) (i : ℕ) (p : Bytes) (a b : ℕ) → step m (at i (notice p)) .result ≡ counted a b
+      → a ≡ itemCount (λ x. pending x (vcpuAt (next m (at i (notice p))) i) && not (pending x (vcpuAt m i)))
+  -- and the two together are its number of admitted items, which was its answer before there were two (13.43)
+  pub noticeSum : (m : Module) (i : ℕ) (p : Bytes) (a b : ℕ) → step m (at i (notice p)) .result ≡ counted a b
+      → a + b ≡ items (admitted (m .vmpl) (vcpuAt m i .allowed) p)
+  -- of every module value: bit k of an IPI's answer says that the item was not pending at the vCPU k before it and is after it (13.44, 13.45)
+  pub icrNames : (m : Module) (i x r k : ℕ) → step m (writesIcr i x) .result ≡ done r
+      → bitAt r k ≡ (pending (icrItem x) (vcpuAt (next m (writesIcr i x)) k) && not (pending (icrItem x) (vcpuAt m k)))
+  pub selfNames : (m : Module) (i x r k : ℕ) → step m (sendsSelf i x) .result ≡ done r
+      → bitAt r k ≡ (pending (Vector x) (vcpuAt (next m (sendsSelf i x)) k) && not (pending (Vector x) (vcpuAt m k)))
+  -- and every active target has it pending afterwards, named or not (13.46)
+  pub icrReaches : (m : Module) (i x r k : ℕ) → step m (writesIcr i x) .result ≡ done r → isReached (icrTarget x) i (size m) k (vcpuAt m k .phase) ≡ true
+      → pending (icrItem x) (vcpuAt (next m (writesIcr i x)) k) ≡ true
+  -- of every module value: after an accepted notice what was pending at its vCPU and what it admits is pending there, and nothing else (13.47)
+  pub noticePends : (m : Module) (i : ℕ) (p : Bytes) (a b : ℕ) (x : Item) → InRange x → step m (at i (notice p)) .result ≡ counted a b
+      → pending x (vcpuAt (next m (at i (notice p))) i) ≡ (pending x (vcpuAt m i) || inPart x (admitted (m .vmpl) (vcpuAt m i .allowed) p))
+  -- of every module value: after an accepted self-IPI its vector is pending at the caller (13.48)
+  pub selfReaches : (m : Module) (i x r : ℕ) → step m (sendsSelf i x) .result ≡ done r → pending (Vector x) (vcpuAt (next m (sendsSelf i x)) i) ≡ true
+  -- P and the NMI mark apart, it changes what is in flight at the caller and nothing else (13.49)
+  pub selfTouches : (m : Module) (i x j r : ℕ) → step m (sendsSelf i x) .result ≡ done r
+      → unmarkAll (vcpuAt (next m (sendsSelf i x)) j) ≡ unmarkAll (cond (eqb j i) (withFlight Nothing (vcpuAt m j)) (vcpuAt m j))
+  -- of every module value: no event changes a place at n or above (13.50)
+  pub keepsBeyond : (m : Module) (e : Event) (j : ℕ) → size m ≤ j → vcpuAt (next m e) j ≡ vcpuAt m j

@@ -6,11 +6,10 @@ use mathlib.Core.Option.{Option, none, some, Option·getD}
 use Prim.Native.Nat.{ℕ, zero, suc, _+_, _*_, _-_, _/_, _%_}
 use lib.Dec.{leb, ltb, eqb}
 use lib.ListN.{length, getD, take, drop}
-use Rattle.model.specs.declared.Admitted.{Admitted}
 use Rattle.model.specs.declared.Item.{Item}
 use Rattle.model.specs.declared.Item.the-variants as item
 use Rattle.vector_set.specs.Bits.{one, bitAt, bits}
-use Rattle.vector_set.specs.Sets.{has, collect, empty, highest, count, isEmpty, vectorOf}
+use Rattle.vector_set.specs.Sets.{has, collect, empty, highest, count, isEmpty}
 pub use Rattle.vector_set.specs.Sets.{isVector}
 
 -- ---- bytes by their bits
@@ -75,9 +74,6 @@ pub record Part : Type 0 where
 unfoldable pub noPart : Part
 noPart = record { nmi = false; level = none; edge = empty }
 
-abbrev pub partOf : Admitted → Part
-partOf a = record { nmi = a .nmi; level = vectorOf (a .level); edge = a .edge }
-
 -- v is the vector that there may be
 abbrev pub isLevel : Option ℕ → ℕ → Bool
 isLevel none v = false
@@ -115,7 +111,7 @@ abbrev pub isSome : Option ℕ → Bool
 isSome none = false
 isSome (some v) = true
 
--- the number of admitted items (4.29, 4.30)
+-- the number of admitted items, new and merged together (4.30)
 unfoldable pub items : Part → ℕ
 items a = one (a .nmi) + one (isSome (a .level)) + count (a .edge)
 

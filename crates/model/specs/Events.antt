@@ -15,15 +15,16 @@ use Rattle.model.specs.declared.Request.the-variants as request
 use Rattle.model.specs.declared.Vcpu.{Vcpu}
 use Rattle.model.specs.declared.Module.{Module}
 use Rattle.model.specs.declared.Stepped.{Stepped}
+use Rattle.model.specs.declared.Noticed.{Noticed}
 use Rattle.model.specs.declared.Entered.{Entered}
 use Rattle.model.specs.State.{isActive, isLeaving, isInFlight, size, vcpuAt, mayStart, start, withVcpu, withRegistrations}
 use Rattle.model.specs.State.{withAllowed, withIsr, withIrrLevel, withIsrLevel, withIcr, withPhase, withFlight}
 use Rattle.model.specs.Codes.{codeOf, Verdict, accept, refuse, need, Answer, nothing, presents, window}
-use Rattle.model.specs.Codes.{Result, done, answers, refused, resultOf, presentedResult}
-use Rattle.model.specs.Items.{itemInFlight, flightOf, mark, unmark, markAll, unmarkAll}
-use Rattle.model.specs.Doorbell.{longEnough, Part, isLevel, inPart, admitted, items, noticedPage, handedBytes, written}
+use Rattle.model.specs.Codes.{Result, done, counted, answers, refused, resultOf, admissionResult, presentedResult}
+use Rattle.model.specs.Items.{itemCount, itemInFlight, flightOf, pending, mark, unmark, markAll, unmarkAll}
+use Rattle.model.specs.Doorbell.{longEnough, Part, isLevel, inPart, admitted, noticedPage, handedBytes, written}
 use Rattle.model.specs.Registers.{class, ppr}
-use Rattle.model.specs.Ipi.{icrItem, icrTarget, sent, reachedBits}
+use Rattle.model.specs.Ipi.{icrItem, icrTarget, sent, newBits}
 use Rattle.model.specs.Requests.{requestOf, forget, serve, callVerdict}
 use Rattle.vector_set.specs.Bits.{one}
 use Rattle.vector_set.specs.Sets.{has, collect, empty, insert, remove, highest}
@@ -71,6 +72,13 @@ pageOf a = Option·getD (lends a) []
 unfoldable pub noticed : Part → Vcpu → Vcpu
 noticed a v =
     withIrrLevel (collect (λ x. has (v .«irr_level») x || isLevel (a .level) x)) (markAll (λ x. inPart x a) v)
+
+-- of the items of a part, how many become pending at a record, and how many were pending there: asked of P and of the NMI mark (4.29, 4.37 to 4.39)
+unfoldable pub itemsNew : Part → Vcpu → ℕ
+itemsNew a v = itemCount (λ x. inPart x a && not (pending x v))
+
+unfoldable pub itemsMerged : Part → Vcpu → ℕ
+itemsMerged a v = itemCount (λ x. inPart x a && pending x v)
 
 -- what an entry answers for the highest pending vector. The first argument: IF holds and shadow does not; the second: PPR (8.8, 8.9, 8.11, 8.13)
 unfoldable pub offerHighest : Bool → ℕ → Option ℕ → Answer
@@ -138,7 +146,7 @@ unfoldable pub verdict : Module → Event → Verdict
 verdict m e = need (ltb (e .vcpu) (size m)) UnknownVcpu (vcpuVerdict (e .vcpu) (m .registrations) (vcpuAt m (e .vcpu)) (e .act))
 
 -- ---- what an accepted event gives
--- its answer: a result, or, of an ICR write, the vCPUs that the value reaches
+-- its answer: a result, or, of an ICR write, the value that is sent
 pub data Reply : Type 0 where
   gives : Result → Reply
   sends : ℕ → Reply
@@ -162,11 +170,11 @@ callEffect (request.Local o) i k v =
 callEffect (request.Icr x) i k v = record { reply = sends x; vcpu = withIcr x (forget v); registrations = k; page = [] }
 callEffect (request.Refused c) i k v = record { reply = gives (refused (codeOf c)); vcpu = v; registrations = k; page = [] }
 
--- at the VMPL l, on the record v of the vCPU i, at the count k. An entry too first forgets what was in flight (4.29, 8.3, 9.7, 10.12)
+-- at the VMPL l, on the record v of the vCPU i, at the count k. An entry too first forgets what was in flight (4.29, 4.37, 8.3, 9.7, 10.12)
 unfoldable pub effect : ℕ → ℕ → ℕ → Vcpu → Act Bytes → Effect
 effect l i k v (notice p) =
     record {
-      reply = gives (done (items (admitted l (v .allowed) p)));
+      reply = gives (counted (itemsNew (admitted l (v .allowed) p) v) (itemsMerged (admitted l (v .allowed) p) v));
       vcpu = noticed (admitted l (v .allowed) p) v;
       registrations = k;
       page = noticedPage l p;
@@ -198,10 +206,10 @@ pub record Out : Type 0 where
 abbrev pub refusal : Refusal → Module → Bytes → Out
 refusal c m p = record { result = refused (codeOf c); after = m; page = p }
 
--- the result; of an ICR write by i the vCPUs that are reached (5.23, 7.20)
+-- the result; of an ICR write by i the vCPUs where the item becomes pending (5.23, 7.20)
 abbrev pub resultFor : Reply → ℕ → Module → Result
 resultFor (gives r) i m = r
-resultFor (sends x) i m = done (reachedBits (icrTarget x) i m)
+resultFor (sends x) i m = done (newBits (icrItem x) (icrTarget x) i m)
 
 -- the module, once i's record and the count are stored
 abbrev pub deliver : Reply → ℕ → Module → Module
@@ -238,6 +246,9 @@ doStart n l = record { result = startResult n l; after = start n l; page = [] }
 -- ---- what the functions answer, in these terms
 abbrev pub outOf : Stepped → Bytes → Out
 outOf r p = record { result = resultOf (r .outcome); after = r .after; page = p }
+
+abbrev pub noticedOut : Noticed → Bytes → Out
+noticedOut r p = record { result = admissionResult (r .admission); after = r .after; page = p }
 
 abbrev pub enteredOut : Entered → Out
 enteredOut r = record { result = presentedResult (r .presentation); after = r .after; page = [] }

@@ -12,7 +12,7 @@ use Rattle.model.specs.declared.Target.the-variants.{Caller, All, Others
 use Rattle.model.specs.declared.Vcpu.{Vcpu}
 use Rattle.model.specs.declared.Module.{Module}
 use Rattle.model.specs.State.{isActive, size, vcpuAt}
-use Rattle.model.specs.Items.{mark}
+use Rattle.model.specs.Items.{pending, mark}
 use Rattle.vector_set.specs.Bits.{bitAt, bits}
 use Rattle.vector_set.specs.Sets.{isVector}
 
@@ -91,6 +91,6 @@ unfoldable pub sent : Item → Target → ℕ → Module → Module
 sent y t i m =
     record { n = m .n; vmpl = m .vmpl; registrations = m .registrations; vcpus = mapFrom (reach y t i (size m)) 0 (m .vcpus) }
 
--- bit k says that the vCPU k is reached (7.20, 7.21)
-unfoldable pub reachedBits : Target → ℕ → Module → ℕ
-reachedBits t i m = bits (λ k. reached t i (size m) k (vcpuAt m k .phase)) 0 32
+-- of the item y, from i to the target t: bit k says that y becomes pending at the vCPU k, which is reached and where it was not (7.20, 7.21)
+unfoldable pub newBits : Item → Target → ℕ → Module → ℕ
+newBits y t i m = bits (λ k. reached t i (size m) k (vcpuAt m k .phase) && not (pending y (vcpuAt m k))) 0 32

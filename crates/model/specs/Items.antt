@@ -3,7 +3,7 @@
 use mathlib.Core.Bool.{Bool, true, false, _||_}
 use mathlib.Core.List.{List}
 use mathlib.Core.Option.{Option, none, some}
-use Prim.Native.Nat.{ℕ, _<_, _≤_}
+use Prim.Native.Nat.{ℕ, _+_, _<_, _≤_}
 use lib.Dec.{eqb}
 use Rattle.model.specs.declared.InFlight.{InFlight}
 use Rattle.model.specs.declared.InFlight.the-variants as flight
@@ -11,7 +11,8 @@ use Rattle.model.specs.declared.Item.{Item}
 use Rattle.model.specs.declared.Item.the-variants.{Nmi, Vector}
 use Rattle.model.specs.declared.Vcpu.{Vcpu}
 use Rattle.model.specs.State.{withIrr, withNmi}
-use Rattle.vector_set.specs.Sets.{has, collect, empty, insert, remove}
+use Rattle.vector_set.specs.Bits.{one}
+use Rattle.vector_set.specs.Sets.{has, collect, empty, insert, remove, count}
 
 -- a vector is below 256
 abbrev pub InRange : Item → Type 0
@@ -47,6 +48,10 @@ isItem x (some y) = sameItem x y
 abbrev pub memberOf : Item → ℕ
 memberOf Nmi = 2
 memberOf (Vector v) = v
+
+-- how many items there are with f, the NMI and the vectors 0 to 255 (4.30)
+unfoldable pub itemCount : (Item → Bool) → ℕ
+itemCount f = one (f Nmi) + count (collect (λ v. f (Vector v)))
 
 -- ---- in flight
 -- the item in flight, if one is (2.11)

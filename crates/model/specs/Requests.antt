@@ -1,6 +1,6 @@
 -- Guest calls: what the numbers of a call ask for, and the rule of each request (section 5).
 -- Assumes nothing.
-use mathlib.Core.Bool.{Bool, true, false, cond, _&&_, _||_}
+use mathlib.Core.Bool.{Bool, true, false, cond, not, _&&_, _||_}
 use Prim.Native.Nat.{ℕ, _+_, _-_, _%_}
 use lib.Dec.{leb, ltb, eqb}
 use Rattle.model.specs.declared.Phase.the-variants.{Leaving}
@@ -16,7 +16,7 @@ use Rattle.model.specs.declared.Request.the-variants as request
 use Rattle.model.specs.declared.Vcpu.{Vcpu}
 use Rattle.model.specs.State.{withAllowed, withTpr, withPhase, withFlight}
 use Rattle.model.specs.Codes.{Verdict, accept, refuse, need}
-use Rattle.model.specs.Items.{mark}
+use Rattle.model.specs.Items.{pending, mark}
 use Rattle.model.specs.Registers.{kindOf, registerValue, ended, endedLevel}
 use Rattle.model.specs.Ipi.{icrLegal}
 use Rattle.vector_set.specs.Bits.{bitAt, bits}
@@ -98,7 +98,7 @@ abbrev pub always : ℕ → Vcpu → ℕ → Served
 always x v k = record { verdict = accept; value = x; vcpu = v; registrations = k }
 
 -- a request on the record v of the vCPU i, which has forgotten what was in flight, at the count k; k - 1 is 0 at 0
--- (5.5, 5.8 to 5.14, 5.16, 5.19, 5.20, 5.22, 5.23, 6.22, 6.25, 7.22, 7.23, 11.18)
+-- (5.5, 5.8 to 5.14, 5.16, 5.19, 5.20, 5.22, 5.23, 6.22, 6.25, 7.20, 7.22, 7.23, 7.26, 11.18)
 unfoldable pub serve : Local → ℕ → ℕ → Vcpu → Served
 serve Features i k v = always 0 v k
 serve Leave i k v = always 0 (leaveIf (eqb k 0) v) k
@@ -115,7 +115,7 @@ serve (Disallow x) i k v = always 0 (withAllowed (remove x (v .allowed)) v) k
 serve (Read r) i k v = always (registerValue i v r) v k
 serve (SetTpr x) i k v = always 0 (withTpr x v) k
 serve Eoi i k v = always (endedLevel v) (ended v) k
-serve (SelfIpi x) i k v = always (bits (λ j. eqb j i) 0 32) (mark (item.Vector x) v) k
+serve (SelfIpi x) i k v = always (bits (λ j. eqb j i && not (pending (item.Vector x) v)) 0 32) (mark (item.Vector x) v) k
 
 -- whether a request is served at the count k, on the record v of the vCPU i (5.12, 11.14)
 unfoldable pub callVerdict : Request → ℕ → ℕ → Vcpu → Verdict

@@ -1,4 +1,4 @@
--- Further worked cases (14.21 to 14.40, 14.42, 14.43, 14.46 to 14.49), for what no claim says otherwise, and all cases of single events in one proposition.
+-- Further worked cases (14.21 to 14.40, 14.42, 14.43, 14.46 to 14.58), for what no claim says otherwise, and all cases of single events in one proposition.
 -- Assumes nothing.
 use mathlib.Core.Path.{_≡_}
 use mathlib.Core.Bool.{Bool, true, false, not, _&&_}
@@ -12,17 +12,17 @@ use Rattle.model.specs.declared.Item.{Item}
 use Rattle.model.specs.declared.Item.the-variants as item
 use Rattle.model.specs.declared.Vcpu.{Vcpu}
 use Rattle.model.specs.declared.Module.{Module}
-use Rattle.vector_set.specs.Sets.{empty, insert}
+use Rattle.vector_set.specs.Sets.{empty, full, insert}
 use Rattle.model.specs.Items.{sameItem}
-use Rattle.model.specs.State.{vcpuAt, start, withIrr, withIsr, withIrrLevel, withIsrLevel, withNmi, withTpr, withPhase}
-use Rattle.model.specs.Codes.{Answer, nothing, presents, window, Result, done, answers, refused}
+use Rattle.model.specs.State.{vcpuAt, start, withVcpu, withAllowed, withIrr, withIsr, withIrrLevel, withIsrLevel, withNmi, withTpr, withPhase}
+use Rattle.model.specs.Codes.{Answer, nothing, presents, window, Result, done, counted, answers, refused}
 use Rattle.model.specs.Registers.{kindOf}
 use Rattle.model.specs.Causes.{isKindNone, isKindRead, isKindWrite}
 use Rattle.model.specs.declared.Kind.{Kind}
 use Rattle.vector_set.specs.Bits.{one}
 use Rattle.model.specs.Events.{notice, call, entry, nonDelivery, handBack, at, Event, Out, step, next}
-use Rattle.model.specs.Cases.{sameNumbers, gives, isRefused, isNothing, fresh2, having, record0, singleton}
-use Rattle.model.specs.Cases.{announcing, onPage, resultOn, level61, pending41, every, Starred}
+use Rattle.model.specs.Cases.{sameNumbers, gives, counts, isRefused, isNothing, fresh2, having, record0, singleton}
+use Rattle.model.specs.Cases.{announcing, byte64, onPage, resultOn, level61, pending41, every, Starred}
 
 -- ---- what the cases use
 -- n bytes b from byte i on
@@ -81,6 +81,7 @@ isWindow v (window w) = eqb v w
 -- the answer of an entry
 abbrev pub answersBy : (Answer → Bool) → Result → Bool
 answersBy t (done x) = false
+answersBy t (counted a b) = false
 answersBy t (answers a) = t a
 answersBy t (refused c) = false
 
@@ -127,6 +128,47 @@ abbrev hasLeft : Phase → Bool
 hasLeft Active = false
 hasLeft Leaving = false
 hasLeft Left = true
+
+-- ---- new and merged
+-- vCPU 0, with everything allowed, after a notice
+abbrev told : Vcpu → List ℕ → Out
+told v p = step (having (withAllowed full v)) (at 0 (notice p))
+
+-- the page of case 14.51: bit 14, the NMI, the marks of 0x41 and 0x52
+abbrev many : List ℕ
+many = set (set (set announcing 65 0x41) 72 0x02) 74 0x04
+
+-- the page of case 14.52: 0x61, level-sensitive, and with bit 14 its mark
+abbrev marked61 : List ℕ
+marked61 = set (set (set announcing 64 0x61) 65 0x44) 76 0x02
+
+abbrev edge61 : List ℕ
+edge61 = set announcing 64 0x61
+
+abbrev level61Page : List ℕ
+level61Page = set (set announcing 64 0x61) 65 0x04
+
+abbrev pending61 : Vcpu
+pending61 = withIrr (singleton 0x61) record0
+
+-- both vCPUs, with 0x41 and the NMI pending at vCPU 1 alone
+abbrev at1 : Module
+at1 = withVcpu fresh2 1 (withNmi true (withIrr (singleton 0x41) record0))
+
+-- vCPU 0 with 0x41 in flight and 0x42 pending
+abbrev merged42 : Module
+merged42 = having (withIrr (singleton 0x42) (vcpuAt shown41 0))
+
+-- an ICR write by vCPU 31
+abbrev icr31 : ℕ → Event
+icr31 x = at 31 (call 3 0x830 x)
+
+-- a value with n 2 and 32 active records, which start does not give
+abbrev crowded : Module
+crowded = record { n = 2; vmpl = 1; registrations = 1; vcpus = replicate 32 record0 }
+
+abbrev irrOf : Module → ℕ → List ℕ
+irrOf m k = vcpuAt m k .irr
 
 unfoldable pub further : List Bool
 further =
@@ -206,7 +248,7 @@ further =
     ∷ gives 2 (resultOn given61 (at 0 (call 2 0x81B 0)))
     ∷ gives 0x61 (resultOn (next given61 (enters true false false)) eoi)
     -- 14.37: an NMI by a notice, returned
-    ∷ gives 1 (nmiNotice .result)
+    ∷ counts 1 0 (nmiNotice .result)
     ∷ answersBy (isShown item.Nmi) (resultOn (nmiNotice .after) (enters false false false))
     ∷ answersBy (isShown item.Nmi) (resultOn (next (next (nmiNotice .after) (enters false false false)) (at 0 nonDelivery)) (enters false false false))
     -- 14.38: an NMI by an IPI
@@ -256,6 +298,58 @@ further =
     ∷ reachesOf18 0 0xFF00004041
     -- 14.49: an ICR write forgets what an entry presented
     ∷ isRefused 4 (resultOn (next shown41 (icr 0x100004041)) (at 0 nonDelivery))
+    -- 14.50: a superfluous notice, and one that announces nothing
+    ∷ counts 0 1 (told (withIrr (singleton 0x41) record0) byte64 .result)
+    ∷ sameNumbers (irrOf (told (withIrr (singleton 0x41) record0) byte64 .after) 0) (singleton 0x41)
+    ∷ counts 0 0 (told (withIrr (singleton 0x41) record0) (set byte64 3 0) .result)
+    -- 14.51: a notice of three items, of which none, two, the NMI alone and all are pending
+    ∷ counts 3 0 (told record0 many .result)
+    ∷ counts 1 2 (told (withNmi true (withIrr (singleton 0x41) record0)) many .result)
+    ∷ counts 2 1 (told (withNmi true record0) many .result)
+    ∷ counts 0 3 (told (withNmi true (withIrr (insert 0x52 (singleton 0x41)) record0)) many .result)
+    -- 14.52: a level-sensitive request for what is pending as edge, the other way round, and both at once
+    ∷ counts 0 1 (told pending61 level61Page .result)
+    ∷ sameNumbers (vcpuAt (told pending61 level61Page .after) 0 .«irr_level») (singleton 0x61)
+    ∷ counts 0 1 (told (withIrrLevel (singleton 0x61) pending61) edge61 .result)
+    ∷ sameNumbers (vcpuAt (told (withIrrLevel (singleton 0x61) pending61) edge61 .after) 0 .«irr_level») (singleton 0x61)
+    ∷ counts 1 0 (told record0 marked61 .result)
+    ∷ counts 0 1 (told pending61 marked61 .result)
+    -- 14.53: what is in service, in flight or marked in PL alone was not pending
+    ∷ counts 1 0 (told (withIsr (singleton 0x41) record0) byte64 .result)
+    ∷ counts 1 0 (told (vcpuAt shown41 0) byte64 .result)
+    ∷ counts 1 0 (told (withIrrLevel (singleton 0x41) record0) byte64 .result)
+    -- 14.54: whom an IPI names, and that it reaches the others too
+    ∷ gives 1 (resultOn at1 (icr 0x84041))
+    ∷ sameNumbers (irrOf (next at1 (icr 0x84041)) 0) (singleton 0x41)
+    ∷ sameNumbers (irrOf (next at1 (icr 0x84041)) 1) (singleton 0x41)
+    ∷ gives 2 (resultOn at1 (icr 0x100004042))
+    ∷ gives 0 (resultOn at1 (icr 0x100004400))
+    ∷ gives 1 (resultOn at1 (icr 0xFFFFFFFF00004400))
+    ∷ gives 0 (resultOn at1 (at 1 (call 3 0x83F 0x41)))
+    ∷ gives 2 (resultOn at1 (at 1 (call 3 0x83F 0x42)))
+    ∷ gives 2 (resultOn (withVcpu fresh2 1 (withIsr (singleton 0x41) record0)) (icr 0x100004041))
+    -- 14.55: an IPI whose targets all had the item stores the ICR and forgets what an entry presented
+    ∷ gives 0 (resultOn merged42 (icr 0x44042))
+    ∷ gives 0x44042 (resultOn (next merged42 (icr 0x44042)) (at 0 (call 2 0x830 0)))
+    ∷ isRefused 4 (resultOn (next merged42 (icr 0x44042)) (at 0 nonDelivery))
+    ∷ gives 0 (resultOn merged42 (at 0 (call 3 0x83F 0x42)))
+    ∷ gives 0 (resultOn (next merged42 (at 0 (call 3 0x83F 0x42))) (at 0 (call 2 0x830 0)))
+    ∷ isRefused 4 (resultOn (next merged42 (at 0 (call 3 0x83F 0x42))) (at 0 nonDelivery))
+    -- 14.56: the most that a notice admits, where nothing is pending and where everything is; what it does not name stays pending
+    ∷ counts 226 0 (told record0 ones .result)
+    ∷ counts 0 226 (told (withNmi true (withIrr full record0)) ones .result)
+    ∷ sameNumbers (irrOf (told (withIrr (singleton 0x52) record0) byte64 .after) 0) (insert 0x52 (singleton 0x41))
+    ∷ (vcpuAt (told (withNmi true record0) byte64 .after) 0 .nmi)
+    -- 14.57: 32 vCPUs, and the last of them
+    ∷ gives 0xFFFFFFFF (resultOn (start 32 1) (icr31 0x84041))
+    ∷ gives 0x7FFFFFFF (resultOn (start 32 1) (icr31 0xC4041))
+    ∷ gives 0x80000000 (resultOn (start 32 1) (icr31 0x44041))
+    ∷ gives 0x80000000 (resultOn (start 32 1) (at 31 (call 3 0x83F 0x41)))
+    ∷ gives 0x80000000 (resultOn (start 32 1) (icr31 0x1F00004041))
+    ∷ gives 0x80000000 (resultOn (start 32 1) (icr31 0x0001800000004841))
+    -- 14.58: places at n and above are not named, also where they hold active records
+    ∷ gives 3 (resultOn crowded (icr 0x84041))
+    ∷ sameNumbers (irrOf (next crowded (icr 0x84041)) 2) empty
     ∷ []
 
 -- ---- all of them

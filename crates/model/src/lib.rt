@@ -1,6 +1,4 @@
 // The state of the gate and what its events answer. What each event does is said in specs/; the crates above carry it out.
-use vector_set::Found;
-
 // The vector that stands for the NMI in an allowed set and in call 4 (2.4, 4.16, 5.17).
 pub const NMI_VECTOR: u8 = 2;
 
@@ -63,13 +61,6 @@ pub enum Target {
     Logical(u32),
 }
 
-// What a notice admits: the NMI, the level-sensitive vector or its absence, and the edge set.
-pub struct Admitted {
-    pub nmi: bool,
-    pub level: Found,
-    pub edge: [u32; 8],
-}
-
 // Why an event is refused. Its code is `codeOf` of specs/Codes.antt.
 pub enum Refusal {
     UnknownVcpu,
@@ -106,9 +97,15 @@ pub enum Request {
     Refused(Refusal),
 }
 
-// The answer of start, a notice, a guest call, a non-delivery or a hand-back.
+// The answer of start, a guest call, a non-delivery or a hand-back.
 pub enum Outcome {
     Done(u64),
+    Refused(Refusal),
+}
+
+// The answer of a notice: how many of its items are new, and how many were merged with what was pending.
+pub enum Admission {
+    Items(u32, u32),
     Refused(Refusal),
 }
 
@@ -124,6 +121,11 @@ pub enum Presentation {
 // The answer of an event with the module after it.
 pub struct Stepped {
     pub outcome: Outcome,
+    pub after: Module,
+}
+
+pub struct Noticed {
+    pub admission: Admission,
     pub after: Module,
 }
 

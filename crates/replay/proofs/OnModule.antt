@@ -30,29 +30,24 @@ use denote.Ref.{RefT, ptr, now}
 use denote.Signature.{Slot, typesAt}
 use denote.Slice.{MutSlice, Room, sliceVal}
 use denote.Steps.{owned}
-use denote.Enum.Laws as EL
 use denote.Triple.Clauses.{Ended, Clauses}
 use denote.Triple.End.{Kepts}
 use Rattle.model.specs.declared.Module.{Module}
-use Rattle.model.specs.declared.Outcome.{Outcome}
 use Rattle.model.proofs.Module as T
-use Rattle.model.proofs.Outcome as O
-use Rattle.model.proofs.Outcome.Laws as O′
 use Rattle.console.proofs.front as front
 use Rattle.console.proofs.front.Symbol.{name as #front}
-use Rattle.gate_mut.proofs.Answers.{machO}
 use Rattle.replay.proofs.Call.{Callee1, Callee2, Closed, calls1, calls2, answers, answers-slice, asks1}
 use Rattle.replay.proofs.Lend.{at, Lent, Ref, Token, Kept, lends, comes-back, lends-slice, slice-back}
 
 abbrev pub Page : RattleType
 Page = Array u8 4096
 
--- a function over the module, a vCPU's number, a slice and other plain data
-abbrev pub Paged : (ss : List (Slot 2)) → Kepts ss → Ended
-Paged ss ks =
+-- a function over the module, a vCPU's number, a slice and other plain data, which answers with an R
+abbrev pub Paged : (ss : List (Slot 2)) → Kepts ss → RattleType → Ended
+Paged ss ks R =
     Callee2 (RefMutOf (0 ∷ []) tt (plain (λ _. T.the-row)) (λ _. tt) ∷ plain (λ _. u32) ∷ SliceRefMutOf (1 ∷ []) tt (plain (λ _. u8)) (λ _. tt) ∷ ss)
     (yes, (yes, (yes, ks)))
-    (plain (λ _. O.the-row))
+    (plain (λ _. R))
 
 -- a function over the module and plain data
 abbrev pub Plainly : (ss : List (Slot 1)) → Kepts ss → Slot 1 → Ended
@@ -93,8 +88,9 @@ module _ {M : Type 1} (𝓤 : URA M) (H : Heap 𝓤) (A : Atoms 𝓤) (W : Given
         (at (p .block) (p .offset) γ₂ ys, (n, tt)) (sliceVal (p .block, p .offset) 4096 ∷ [], (vint w64 n ∷ [], tt)) tt (id⊢ 𝓤 (emp 𝓤)) (os β γ₂ _)
         (λ r w. answers-slice t u8 r w (λ room. k β γ₂ l r room)))
 
-    -- the call of a function over the module, the vCPU's number, the slice and other plain data, which answers with an outcome
-    pub pages : K → {f : Name} (ss : List (Slot 2)) (ks : Kepts ss) (c : Clauses 𝓤 (Paged ss ks)) → Triple 𝓤 (𝓣 .C f) (Closed (Paged ss ks) 𝓤 H A c)
+    -- the call of a function over the module, the vCPU's number, the slice and other plain data
+    pub pages : K → {f : Name} (ss : List (Slot 2)) (ks : Kepts ss) (R : RattleType) (val : R .Denot → Val) → Tells R (Is R) (λ r. val r ∷ [])
+        → (c : Clauses 𝓤 (Paged ss ks R)) → Triple 𝓤 (𝓣 .C f) (Closed (Paged ss ks R) 𝓤 H A c)
         → (i : ℕ) → i < 2 ^ 32
         → (β : ℕ) (γ₂ : GName) → length ys ≡ 4096 → (r : RefT (List ℕ))
         → ((α : ℕ) → Makess 𝓤 H A (typesAt ss (α ∷ [], (β ∷ [], tt))) (Ises (typesAt ss (α ∷ [], (β ∷ [], tt)))))
@@ -105,23 +101,23 @@ module _ {M : Type 1} (𝓤 : URA M) (H : Heap 𝓤) (A : Atoms 𝓤) (W : Given
         → ((α : ℕ) (γ₁ : GName) (lent : Fml) → Opds K W ((‵ lent ⊛ (‵ (flft (α ∷ []) fullShare) ⊛ ‵ (flft (β ∷ []) fullShare)))
         ∷ ‵ (LentAgain T.the-row (m .lft) (α ∷ []) (m .share) (m .name) (m .block) (m .offset) γ₁ h) ∷ Lender β γ₂ ∷ Γ) E xs
         (vptr (m .block) (m .offset) ∷ vint w32 i ∷ sliceVal (ptr r) (length (now r)) ∷ flat (typesAt ss (α ∷ [], (β ∷ [], tt))) (vss α)))
-        → ((x : Outcome) → Is O.the-row x (machO x ∷ []) → (h′ : Module) (zs : List ℕ) → Seq K W (Ends m p h′ zs ++ Γ)
-        (lands (𝓣 .C) (𝓣 .Λ) E d (machO x) next Q))
+        → ((x : R .Denot) → Is R x (val x ∷ []) → (h′ : Module) (zs : List ℕ) → Seq K W (Ends m p h′ zs ++ Γ)
+        (lands (𝓣 .C) (𝓣 .Λ) E d (val x) next Q))
         → Seq K W (Front β r ∷ ‵ (flft (β ∷ []) fullShare) ∷ Lender β γ₂ ∷ Ref m T.the-row h ∷ Token m ∷ Γ) (runs (𝓣 .C) (𝓣 .Λ) E (seq (call f xs d) next) Q)
-    pages t ss ks c known i i-fits β γ₂ l r mk a vss are g met os k = move t (3 ∷ 4 ∷ []) $ lends t tt T.the-row h (λ α γ₁.
+    pages t ss ks R val tells c known i i-fits β γ₂ l r mk a vss are g met os k = move t (3 ∷ 4 ∷ []) $ lends t tt T.the-row h (λ α γ₁.
         use0 W (‵ (owns (typesAt ss (α ∷ [], (β ∷ [], tt))) (a α) (vss α)))
         (owns-make 𝓤 H A (typesAt ss (α ∷ [], (β ∷ [], tt))) (Ises (typesAt ss (α ∷ [], (β ∷ [], tt)))) (mk α) (a α) (vss α) (are α)) $
         -- [what the plain data own; the module; its token; its lender; the slice; its token; its lender; ..]
         move t (4 ∷ 0 ∷ []) $ fjoin t $ owned t u32 (Is u32) (uint-makes 𝓤 H A W w32) i (vint w32 i ∷ []) (refl, i-fits) $ fjoin t $ move t (1 ∷ 0 ∷ []) $
         fjoin t $
         move t (0 ∷ 1 ∷ 3 ∷ []) $
-        calls2 (Paged ss ks .signature .params) (Paged ss ks .kept) (plain (λ _. O.the-row)) c t (fmOf 𝓤 H (W .laws) 𝓣) known (α ∷ []) (β ∷ []) fullShare
+        calls2 (Paged ss ks R .signature .params) (Paged ss ks R .kept) (plain (λ _. R)) c t (fmOf 𝓤 H (W .laws) 𝓣) known (α ∷ []) (β ∷ []) fullShare
         fullShare
         (at (m .block) (m .offset) γ₁ h, (i, (r, a α))) (
           vptr (m .block) (m .offset) ∷ [],
           (vint w32 i ∷ [], (sliceVal (ptr r) (length (now r)) ∷ [], vss α)),
         ) (g α γ₁) (met α γ₁) (os α γ₁ _) (λ x w.
-        answers t O.the-row machO (EL.tells O.the-type O′.the-laws) x w (λ x-is. move t (0 ∷ 2 ∷ []) $ comes-back t tt T.the-row h (λ h′.
+        answers t R val tells x w (λ x-is. move t (0 ∷ 2 ∷ []) $ comes-back t tt T.the-row h (λ h′.
         move t (2 ∷ 3 ∷ []) $ slice-back u8 4096 t tt ys l (λ zs. move t (2 ∷ 3 ∷ []) $ k x x-is h′ zs)))))
 
     -- the call of a function over the module and plain data

@@ -26,7 +26,7 @@ fn play(module: &mut Module, page: &mut PageRoom, event: Event) -> Answer {
             *module = started.after;
             Answer::Outcome(started.outcome)
         }
-        Event::Notice { vcpu, length } => Answer::Outcome(notice_in(
+        Event::Notice { vcpu, length } => Answer::Admission(notice_in(
             module,
             vcpu,
             front(page, length),

@@ -10,6 +10,7 @@ use console::input::next_event;
 use console::report::report;
 use model::Entered;
 use model::Module;
+use model::Noticed;
 use model::Stepped;
 use trace::Event;
 
@@ -35,6 +36,15 @@ fn stepped(s: Stepped) -> Played {
     }
 }
 
+fn noticed(r: Noticed) -> Played {
+    let module = r.after;
+    let admission = r.admission;
+    Played {
+        module,
+        answer: Answer::Admission(admission),
+    }
+}
+
 fn entered(e: Entered) -> Played {
     let module = e.after;
     let presentation = e.presentation;
@@ -50,7 +60,7 @@ fn play(module: Module, page: &mut [u8], event: Event) -> Played {
         Event::Nothing => silent(module),
         Event::Unreadable => silent(module),
         Event::Start { n, vmpl } => stepped(gate_start::start(n, vmpl)),
-        Event::Notice { vcpu, length } => stepped(gate_pages::notice(
+        Event::Notice { vcpu, length } => noticed(gate_pages::notice(
             module,
             vcpu,
             front(page, length),

@@ -1,4 +1,3 @@
-pub mod Sets
 pub mod Told
 pub mod Stores
 pub mod Sent

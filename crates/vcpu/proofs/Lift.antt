@@ -1,13 +1,15 @@
 -- The model's step from the steps of records: what the crates above cite for a module lent by value or by reference.
 -- Assumes nothing.
-use mathlib.Core.Path.{_≡_, refl, sym, ap, _∙_}
-use mathlib.Core.Bool.{Bool}
+use mathlib.Core.Path.{_≡_, refl, sym, ap, ap₂, _∙_}
+use mathlib.Core.Bool.{Bool, not, _&&_}
 use mathlib.Core.List.{List, []}
 use Prim.Native.Nat.{ℕ, _+_, _-_, _<_, _≤_}
 use native.Mathlib.Omega.{arith}
 use lib.ListN.{length}
 use borrow.Author.Tests.{lt-ltb, le-ltb}
+use Rattle.model.specs.declared.Item.{Item}
 use Rattle.model.specs.declared.Local.{Local}
+use Rattle.model.specs.declared.Phase.{Phase}
 use Rattle.model.specs.declared.Refusal.{Refusal}
 use Rattle.model.specs.declared.Refusal.the-variants.{UnknownVcpu}
 use Rattle.model.specs.declared.Request.{Request}
@@ -18,8 +20,8 @@ use Rattle.model.specs.declared.Module.{Module}
 use Rattle.model.specs.State.{size, vcpuAt, withVcpu, withRegistrations}
 use Rattle.model.specs.Doorbell.{admitted, noticedPage, written}
 use Rattle.model.specs.Codes.{codeOf, Verdict, accept, refuse, refused}
-use Rattle.model.specs.Items.{itemInFlight}
-use Rattle.model.specs.Ipi.{icrItem, icrTarget, reached, sent, reachedBits}
+use Rattle.model.specs.Items.{itemInFlight, pendingIn, pending}
+use Rattle.model.specs.Ipi.{icrItem, icrTarget, reached, sent, newBits}
 use Rattle.model.specs.Requests.{requestOf}
 use Rattle.model.specs.Events.{Act, notice, call, entry, nonDelivery, handBack, at, Bytes, Event, pageOf, offer, handed, vcpuVerdict, verdict, sends, Effect}
 use Rattle.model.specs.Events.{effect, callEffect, Out, store, refusal, concluded, decided, step}
@@ -113,23 +115,38 @@ by-call accept m i op c x = refl
 by-call (refuse d) m i op c x =
     kept m i d [] ∙ ap (λ (a : Module). record { result = refused (codeOf d); after = a; page = [] }) (sym (count-same m i (vcpuAt m i)))
 
--- a call that sends leaves its caller's phase
-same-phase : (g : Verdict) (r : Request) (i k x : ℕ) (v : Vcpu) → callOn g r i k v .reply ≡ sends x → callOn g r i k v .vcpu .phase ≡ v .phase
-unfolding callOn callEffect
-same-phase (refuse c) r i k x v e = clash (cc)
-same-phase accept (request.Local o) i k x v e = clash (cc)
-same-phase accept (request.Refused c) i k x v e = clash (cc)
-same-phase accept (request.Icr y) i k x v e = refl
+-- what an IPI looks at in a record: its phase and what is pending
+pub record Alike (u v : Vcpu) : Type 0 where
+  pub phase : u .phase ≡ v .phase
+  pub nmi : u .nmi ≡ v .nmi
+  pub irr : u .irr ≡ v .irr
 
--- the phases that an IPI looks at are those of before the caller's record and the count were stored
-same-reached : (m : Module) (i : ℕ) (f : Effect) (t : Target) → f .vcpu .phase ≡ vcpuAt m i .phase → i < length (m .vcpus)
-    → reachedBits t i (store f i m) ≡ reachedBits t i m
-unfolding reachedBits
-same-reached m i f t e h =
+-- a call that sends leaves these of its caller
+same-seen : (g : Verdict) (r : Request) (i k x : ℕ) (v : Vcpu) → callOn g r i k v .reply ≡ sends x → Alike (callOn g r i k v .vcpu) v
+unfolding callOn callEffect
+same-seen (refuse c) r i k x v e = clash (cc)
+same-seen accept (request.Local o) i k x v e = clash (cc)
+same-seen accept (request.Refused c) i k x v e = clash (cc)
+same-seen accept (request.Icr y) i k x v e = record { phase = refl; nmi = refl; irr = refl }
+
+-- the vCPU k is named, by its record
+abbrev named : Item → Target → ℕ → Module → ℕ → Vcpu → Bool
+named y t i m k v = reached t i (size m) k (v .phase) && not (pending y v)
+
+alike-named : (y : Item) (t : Target) (i : ℕ) (m : Module) (k : ℕ) (u v : Vcpu) → Alike u v → named y t i m k u ≡ named y t i m k v
+alike-named y t i m k u v a =
+    ap (λ (p : Phase). reached t i (size m) k p && not (pending y u)) (a .phase)
+    ∙ ap₂ (λ (b : Bool) (s : List ℕ). reached t i (size m) k (v .phase) && not (pendingIn y b s)) (a .nmi) (a .irr)
+
+-- the records that an IPI looks at are those of before the caller's record and the count were stored
+same-named : (m : Module) (i : ℕ) (f : Effect) (y : Item) (t : Target) → Alike (f .vcpu) (vcpuAt m i) → i < length (m .vcpus)
+    → newBits y t i (store f i m) ≡ newBits y t i m
+unfolding newBits
+same-named m i f y t a h =
     rw (size-count (f .registrations) (withVcpu m i (f .vcpu)), size-put m i (f .vcpu))
     (bits-ext _ _ 0 32
     (λ b l. rw (vcpuAt-count (f .registrations) (withVcpu m i (f .vcpu)) (0 + b))
-    (on-put m i (f .vcpu) (0 + b) h (λ k _ u v. reached t i (size m) k (v .phase) ≡ reached t i (size m) k (u .phase)) (ap (reached t i (size m) i) e) refl)))
+    (on-put m i (f .vcpu) (0 + b) h (λ k _ u v. named y t i m k v ≡ named y t i m k u) (alike-named y t i m i (f .vcpu) (vcpuAt m i) a) refl)))
 
 no-page : (g : Verdict) (r : Request) (i k : ℕ) (v : Vcpu) → callOn g r i k v .page ≡ []
 unfolding callOn callEffect
@@ -139,14 +156,14 @@ no-page accept (request.Icr x) i k v = refl
 no-page accept (request.Refused c) i k v = refl
 
 sent-by : (m : Module) (i : ℕ) (f : Effect) (y : ℕ) → size m ≤ length (m .vcpus) → i < length (m .vcpus)
-    → f .reply ≡ sends y → f .page ≡ [] → f .vcpu .phase ≡ vcpuAt m i .phase
+    → f .reply ≡ sends y → f .page ≡ [] → Alike (f .vcpu) (vcpuAt m i)
     → delivered (sendBelow i y (store f i m) (size (store f i m))) ≡ concluded f i m
 unfolding concluded withRegistrations
 sent-by m i f y whole h e p same =
     rw (e, p)
     (ap delivered
     (all-sent i y (store f i m) (rw (size-count (f .registrations) (withVcpu m i (f .vcpu)), size-put m i (f .vcpu), put-length m i (f .vcpu)) whole)
-    ∙ ap (λ (b : ℕ). record { mask = b; after = sent (icrItem y) (icrTarget y) i (store f i m) }) (same-reached m i f (icrTarget y) same h)))
+    ∙ ap (λ (b : ℕ). record { mask = b; after = sent (icrItem y) (icrTarget y) i (store f i m) }) (same-named m i f (icrItem y) (icrTarget y) same h)))
 
 module _ (m : Module) (i : ℕ) (h : i < size m) (op c x : ℕ) where
   -- what the call gives
@@ -162,4 +179,4 @@ module _ (m : Module) (i : ℕ) (h : i < size m) (op c x : ℕ) where
       → delivered (sendBelow i y (store callStep i m) (size (store callStep i m))) ≡ concluded callStep i m
   lift-sent whole y e =
       sent-by m i callStep y whole (omega arith) e (no-page _ (requestOf op c x) i (m .registrations) (vcpuAt m i))
-      (same-phase _ (requestOf op c x) i (m .registrations) y (vcpuAt m i) e)
+      (same-seen _ (requestOf op c x) i (m .registrations) y (vcpuAt m i) e)

@@ -1,24 +1,24 @@
--- An IPI that goes from record to record leaves the module that the model says, and reaches the same vCPUs.
+-- An IPI that goes from record to record leaves the module that the model says, and names the same vCPUs.
 -- Assumes nothing.
 use mathlib.Core.Path.{_≡_, refl, sym, ap, ap₂, _∙_}
-use mathlib.Core.Bool.{Bool, true, false, cond, _&&_, _||_}
+use mathlib.Core.Bool.{Bool, true, false, cond, not, _&&_, _||_}
 use mathlib.Core.List.{List, [], _∷_}
-use Prim.Native.Nat.{ℕ, zero, suc, _+_, _-_, _^_, _<_, _≤_}
+use Prim.Native.Nat.{ℕ, zero, suc, _+_, _-_, _*_, _^_, _<_, _≤_}
 use native.Mathlib.Omega.{arith}
-use native.Mathlib.Nat.{le-of-suc-le-suc, not-suc-le-zero, pow-succ'}
-use lib.Bits.{bitOr, or-lt}
+use native.Mathlib.Nat.{le-of-suc-le-suc, not-suc-le-zero, pow-succ', zero-mul}
+use lib.Bits.{bitOr, or-lt, or-zero-r}
 use lib.Pow.{pow-pos}
 use lib.Dec.{ltb, eqb}
 use lib.ListN.{length, getD, set}
 use borrow.Author.Tests.{lt-ltb, le-ltb, ltb-true, ltb-false, eqb-true, eqb-false}
 use Rattle.vector_set.proofs.BitLaws.{bits-bit, bits-lt, bits-unique, bit-or, bit-pow, bit-above}
-use Rattle.vector_set.specs.Bits.{bits, bitAt}
+use Rattle.vector_set.specs.Bits.{one, bits, bitAt}
 use Rattle.model.specs.declared.Vcpu.{Vcpu}
 use Rattle.model.specs.declared.Module.{Module}
 use Rattle.model.specs.State.{isActive, absent, size, vcpuAt, withVcpu}
-use Rattle.model.specs.Items.{mark}
+use Rattle.model.specs.Items.{pending, mark}
 use Rattle.model.proofs.Stored.{mapFrom-at}
-use Rattle.model.specs.Ipi.{icrItem, icrTarget, hits, reached, reach, mapFrom, sent, reachedBits}
+use Rattle.model.specs.Ipi.{icrItem, icrTarget, hits, reached, reach, mapFrom, sent, newBits}
 use mathlib.Core.Bool.{or-true, or-false}
 use Rattle.vcpu.specs.Records.{Sending, sendAt, sendBelow}
 use Rattle.vcpu.proofs.Stores.{withVcpus, put-same, size-le}
@@ -61,6 +61,10 @@ bits-less f k e = bits-unique f 0 (suc k) (bits f 0 k) low at
 
     at : (b : ℕ) → b < suc k → bitAt (bits f 0 k) b ≡ f (0 + b)
     at b h = pick b h (eqb b k) refl
+
+bits-next : (f : ℕ → Bool) (k : ℕ) (t : Bool) → f k ≡ t → bitOr (bits f 0 k) (one t * 2 ^ k) ≡ bits f 0 (suc k)
+bits-next f k true e = ap (bitOr (bits f 0 k)) (omega arith) ∙ bits-more f k e
+bits-next f k false e = ap (bitOr (bits f 0 k)) (zero-mul (2 ^ k)) ∙ or-zero-r (bits f 0 k) ∙ bits-less f k e
 
 -- no more bits where there are none from n on
 bits-end : (f : ℕ → Bool) (n k : ℕ) → ((j : ℕ) → n ≤ j → f j ≡ false) → bits f 0 n ≡ bits f 0 (n + k)
@@ -113,6 +117,10 @@ module _ (i x : ℕ) (m : Module) (whole : size m ≤ length (m .vcpus)) where
   abbrev reaches : ℕ → Bool
   reaches j = reached (icrTarget x) i (size m) j (vcpuAt m j .phase)
 
+  -- the item becomes pending there
+  abbrev names : ℕ → Bool
+  names j = reaches j && not (pending (icrItem x) (vcpuAt m j))
+
   -- the record j once the vCPUs below k have been gone through
   abbrev upTo : ℕ → ℕ → Vcpu → Vcpu
   upTo k j v = cond (ltb j k) (reach (icrItem x) (icrTarget x) i (size m) j v) v
@@ -120,7 +128,7 @@ module _ (i x : ℕ) (m : Module) (whole : size m ≤ length (m .vcpus)) where
   abbrev below : ℕ → Sending
   below k =
       record {
-        mask = bits reaches 0 k;
+        mask = bits names 0 k;
         after = withVcpus m (mapFrom (upTo k) 0 (m .vcpus));
       }
 
@@ -163,13 +171,17 @@ module _ (i x : ℕ) (m : Module) (whole : size m ≤ length (m .vcpus)) where
   unfolding sendAt
   one-more k h = rw (at-below k h) (pick (hit k) refl)
     where
+      fresh : Bool
+      fresh = not (pending (icrItem x) (vcpuAt m k))
+
       pick : (t : Bool) → hit k ≡ t
-          → cond t (record { mask = bitOr (bits reaches 0 k) (2 ^ k); after = withVcpu (below k .after) k (mark (icrItem x) (vcpuAt m k)) }) (below k)
+          → cond t (record { mask = bitOr (bits names 0 k) (one fresh * 2 ^ k); after = withVcpu (below k .after) k (mark (icrItem x) (vcpuAt m k)) }) (below k)
           ≡ below (suc k)
       pick true e =
-          ap₂ (λ (b : ℕ) (a : Module). record { mask = b; after = a }) (bits-more reaches k (is-reached k true h e)) (stored k _ h (left k true h e))
+          ap₂ (λ (b : ℕ) (a : Module). record { mask = b; after = a }) (bits-next names k fresh (ap (λ (t : Bool). t && fresh) (is-reached k true h e)))
+          (stored k _ h (left k true h e))
       pick false e =
-          ap₂ (λ (b : ℕ) (a : Module). record { mask = b; after = a }) (bits-less reaches k (is-reached k false h e))
+          ap₂ (λ (b : ℕ) (a : Module). record { mask = b; after = a }) (bits-less names k (ap (λ (t : Bool). t && fresh) (is-reached k false h e)))
           (sym (put-same (below k .after) k) ∙ stored k _ h (at-below k h ∙ left k false h e))
 
   none-yet : sendBelow i x m 0 ≡ below 0
@@ -193,15 +205,15 @@ module _ (i x : ℕ) (m : Module) (whole : size m ≤ length (m .vcpus)) where
       pick true = refl
       pick false = refl
 
-  all-bits : bits reaches 0 (size m) ≡ reachedBits (icrTarget x) i m
-  unfolding reachedBits
+  all-bits : bits names 0 (size m) ≡ newBits (icrItem x) (icrTarget x) i m
+  unfolding newBits
   all-bits =
       let s = size-le m in
       let e : size m + (32 - size m) ≡ 32 = omega arith in
-      bits-end reaches (size m) (32 - size m) (λ j h. rw (le-ltb j (size m) h)) ∙ ap (bits reaches 0) e
+      bits-end names (size m) (32 - size m) (λ j h. rw (le-ltb j (size m) h)) ∙ ap (bits names 0) e
 
   -- every vCPU gone through, the IPI is sent
-  pub all-sent : sendBelow i x m (size m) ≡ record { mask = reachedBits (icrTarget x) i m; after = sent (icrItem x) (icrTarget x) i m }
+  pub all-sent : sendBelow i x m (size m) ≡ record { mask = newBits (icrItem x) (icrTarget x) i m; after = sent (icrItem x) (icrTarget x) i m }
   unfolding sent
   all-sent =
       goes (size m) (omega arith)

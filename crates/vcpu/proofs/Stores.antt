@@ -1,17 +1,14 @@
--- A record of a module stored and read again, and how many records there are.
+-- A record of a module stored and read again.
 -- Assumes nothing.
 use mathlib.Core.Path.{_≡_, refl, ap}
-use mathlib.Core.Bool.{Bool, true, false, cond, _&&_}
 use mathlib.Core.List.{List, [], _∷_}
-use Prim.Native.Nat.{ℕ, zero, suc, _<_, _≤_}
-use native.Mathlib.Omega.{arith}
-use lib.Dec.{leb}
+use Prim.Native.Nat.{ℕ, zero, suc, _<_}
 use lib.ListN.{length, set, length-set}
 use lib.Seq.{getD-set-same, set-getD}
-use borrow.Author.Tests.{leb-true}
 use Rattle.model.specs.declared.Vcpu.{Vcpu}
 use Rattle.model.specs.declared.Module.{Module}
-use Rattle.model.specs.State.{absent, size, vcpuAt, withVcpu}
+use Rattle.model.specs.State.{absent, vcpuAt, withVcpu}
+pub use Rattle.model.proofs.Stored.{size-le}
 
 abbrev pub withVcpus : Module → List Vcpu → Module
 withVcpus m l = record { n = m .n; vmpl = m .vmpl; registrations = m .registrations; vcpus = l }
@@ -38,13 +35,3 @@ put-put m i u v = ap (withVcpus m) (set-set (m .vcpus) i u v)
 pub put-length : (m : Module) (i : ℕ) (v : Vcpu) → length (withVcpu m i v .vcpus) ≡ length (m .vcpus)
 unfolding withVcpu
 put-length m i v = length-set (m .vcpus) i v
-
-pub size-le : (m : Module) → size m ≤ 32
-unfolding size
-size-le m = pick (leb (m .n) 32) (leb 1 (m .vmpl)) (leb (m .vmpl) 3) refl
-  where
-    pick : (a b c : Bool) → leb (m .n) 32 ≡ a → cond (a && b && c) (m .n) 0 ≤ 32
-    pick true true true e = leb-true (m .n) 32 e
-    pick true true false e = omega arith
-    pick true false c e = omega arith
-    pick false b c e = omega arith

@@ -1,11 +1,12 @@
 -- What an event does to the record of the vCPU that it names, refusals included: the model's step, seen from one record.
 -- Assumes nothing.
-use mathlib.Core.Bool.{Bool, cond, _&&_}
+use mathlib.Core.Bool.{Bool, cond, not, _&&_}
 use mathlib.Core.List.{List, []}
 use mathlib.Core.Option.{Option}
-use Prim.Native.Nat.{ℕ, zero, suc, _^_}
+use Prim.Native.Nat.{ℕ, zero, suc, _*_, _^_}
 use lib.Bits.{bitOr}
 use Rattle.vcpu.specs.declared.VcpuStepped.{VcpuStepped}
+use Rattle.vcpu.specs.declared.VcpuNoticed.{VcpuNoticed}
 use Rattle.vcpu.specs.declared.VcpuEntered.{VcpuEntered}
 use Rattle.vcpu.specs.declared.VcpuCalled.{VcpuCalled}
 use Rattle.vcpu.specs.declared.Reply.{Reply as Called}
@@ -15,22 +16,23 @@ use Rattle.model.specs.declared.Request.{Request}
 use Rattle.model.specs.declared.Vcpu.{Vcpu}
 use Rattle.model.specs.declared.Module.{Module}
 use Rattle.model.specs.State.{isActive, vcpuAt, withVcpu}
-use Rattle.model.specs.Doorbell.{Part, items}
+use Rattle.model.specs.Doorbell.{Part}
 use Rattle.model.specs.Ipi.{icrItem, icrTarget, hits}
-use Rattle.model.specs.Items.{mark}
-use Rattle.model.specs.Codes.{codeOf, Verdict, accept, refuse, Answer, Result, done, answers, refused, resultOf, presentedResult}
+use Rattle.model.specs.Items.{pending, mark}
+use Rattle.vector_set.specs.Bits.{one}
+use Rattle.model.specs.Codes.{codeOf, Verdict, accept, refuse, Answer, Result, done, counted, answers, refused, resultOf, admissionResult, presentedResult}
 use Rattle.model.specs.Requests.{forget}
-use Rattle.model.specs.Events.{Reply, gives, sends, Effect, callEffect, Out, noticed, entered, undelivered, emptied, handBackResult}
+use Rattle.model.specs.Events.{Reply, gives, sends, Effect, callEffect, Out, noticed, itemsNew, itemsMerged, entered, undelivered, emptied, handBackResult}
 
 -- the result of an event and its vCPU's record after it
 pub record VcpuOut : Type 0 where
   pub result : Result
   pub vcpu : Vcpu
 
--- a notice that admits a (4.25 to 4.29, 11.19)
+-- a notice that admits a (4.25 to 4.29, 4.37, 11.19)
 unfoldable pub noticeOn : Verdict → Part → Vcpu → VcpuOut
 noticeOn (refuse c) a v = record { result = refused (codeOf c); vcpu = v }
-noticeOn accept a v = record { result = done (items a); vcpu = noticed a v }
+noticeOn accept a v = record { result = counted (itemsNew a v) (itemsMerged a v); vcpu = noticed a v }
 
 -- an entry that is answered with o (8.3 to 8.15, 11.19)
 unfoldable pub entryOn : Verdict → Answer → Vcpu → VcpuOut
@@ -58,16 +60,19 @@ callOn (refuse c) r i k v = record { reply = gives (refused (codeOf c)); vcpu = 
 callOn accept r i k v = callEffect r i k v
 
 -- ---- an IPI, one record after the other
--- the bits of the vCPUs that were reached so far, and the module
+-- the bits of the vCPUs where the item became pending so far, and the module
 pub record Sending : Type 0 where
   pub mask : ℕ
   pub after : Module
 
--- the vCPU k below n, when i sends the ICR value x: an active target is reached (7.16, 7.17, 7.20)
+-- the vCPU k below n, when i sends the ICR value x: an active target is reached, and named where the item was not pending (7.16, 7.17, 7.20)
 unfoldable pub sendAt : ℕ → ℕ → ℕ → Sending → Sending
 sendAt i x k s =
     cond (hits (icrTarget x) i k && isActive (vcpuAt (s .after) k .phase))
-    (record { mask = bitOr (s .mask) (2 ^ k); after = withVcpu (s .after) k (mark (icrItem x) (vcpuAt (s .after) k)) })
+    (record {
+      mask = bitOr (s .mask) (one (not (pending (icrItem x) (vcpuAt (s .after) k))) * 2 ^ k);
+      after = withVcpu (s .after) k (mark (icrItem x) (vcpuAt (s .after) k));
+    })
     s
 
 -- after the vCPUs below k (7.16)
@@ -75,13 +80,16 @@ unfoldable pub sendBelow : ℕ → ℕ → Module → ℕ → Sending
 sendBelow i x m zero = record { mask = 0; after = m }
 sendBelow i x m (suc k) = sendAt i x k (sendBelow i x m k)
 
--- what a call that sends gives: the vCPUs reached, and the module after the IPI (7.20)
+-- what a call that sends gives: the vCPUs named, and the module after the IPI (7.20)
 abbrev pub delivered : Sending → Out
 delivered s = record { result = done (s .mask); after = s .after; page = [] }
 
 -- ---- what the functions answer, in these terms (13.9)
 abbrev pub steppedOut : VcpuStepped → VcpuOut
 steppedOut r = record { result = resultOf (r .outcome); vcpu = r .vcpu }
+
+abbrev pub noticedVcpu : VcpuNoticed → VcpuOut
+noticedVcpu r = record { result = admissionResult (r .admission); vcpu = r .vcpu }
 
 abbrev pub enteredVcpu : VcpuEntered → VcpuOut
 enteredVcpu r = record { result = presentedResult (r .presentation); vcpu = r .vcpu }

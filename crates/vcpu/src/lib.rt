@@ -1,5 +1,6 @@
 // One record by value: its types, what a notice adds to it and how an item is made pending in it.
 // Entry and non-delivery, guest calls, and the pages of notices and hand-backs are crates of their own, above this one.
+use model::Admission;
 use model::Outcome;
 use model::Presentation;
 use model::Vcpu;
@@ -11,6 +12,11 @@ pub mod records;
 // The record after an event, with the answer.
 pub struct VcpuStepped {
     pub outcome: Outcome,
+    pub vcpu: Vcpu,
+}
+
+pub struct VcpuNoticed {
+    pub admission: Admission,
     pub vcpu: Vcpu,
 }
 

@@ -1,44 +1,43 @@
-// What a notice adds to a record.
+// What a notice adds to a record, and what it counts.
 ghost use mathlib.Core.Path.{_≡_};
-ghost use mathlib.Core.Bool.{_||_};
-ghost use Rattle.vector_set.specs.Sets.{union};
-ghost use Rattle.model.specs.State.{withIrr, withNmi};
-ghost use Rattle.model.specs.Doorbell.{partOf};
-ghost use Rattle.model.specs.Events.{noticed};
-use model::Admitted;
+ghost use Prim.Native.Nat.{_<_};
+ghost use Rattle.ipi.specs.Posts.{countsOf};
+ghost use Rattle.vcpu.specs.Notices.{requestAdded, marksAdded, marksCounted};
+use crate::items;
+use ipi::Counts;
+use ipi::Posting;
 use model::Vcpu;
-use vector_set::Found;
 
-// The NMI mark and the edge set of what a notice admitted.
-fn add_edges(v: Vcpu, nmi: bool, edge: [u32; 8]) -> Vcpu
-    ensures { λ r. ⌜ r ≡ withNmi (v .nmi || nmi) (withIrr (union (v .irr) edge) v) ⌝ }
+// The record with what a notice asks for beside its marks (4.25 to 4.28).
+pub fn add_request(v: Vcpu, posting: Posting, level: u32) -> Vcpu
+    requires { ⌜ posting .word < 8 ⌝ }
+    ensures { λ r. ⌜ r ≡ requestAdded posting level v ⌝ }
+{
+    let k = posting.word;
+    let mut w = items::post(v, posting);
+    w.irr_level[k] = w.irr_level[k] | level;
+    w
+}
+
+// The record with the marked vectors (4.28).
+pub fn add_marks(v: Vcpu, edge: [u32; 8]) -> Vcpu
+    ensures { λ r. ⌜ r ≡ marksAdded edge v ⌝ }
 {
     let irr = v.irr;
     let pending = vector_set_algebra::union(irr, edge);
     let mut w = v;
     w.irr = pending;
-    if nmi {
-        w.nmi = true;
-    }
     w
 }
 
-// The record with what a notice admitted (4.25 to 4.28).
-pub fn notice_vcpu(v: Vcpu, a: Admitted) -> Vcpu
-    ensures { λ r. ⌜ r ≡ noticed (partOf a) v ⌝ }
+// The marked vectors are counted with the posting that was made to the word and the mark (4.29, 4.37).
+pub fn count_marks(posting: Posting, word: u32, nmi: bool, edge: [u32; 8], irr: [u32; 8]) -> Counts
+    ensures { λ r. ⌜ r ≡ marksCounted (countsOf posting word nmi) edge irr ⌝ }
 {
-    let edge = a.edge;
-    let level = a.level;
-    let w = add_edges(v, a.nmi, edge);
-    let Found::Vector(x) = level else {
-        return w;
-    };
-    let irr = w.irr;
-    let irr_level = w.irr_level;
-    let pending = vector_set::insert(irr, x);
-    let pending_level = vector_set::insert(irr_level, x);
-    let mut u = w;
-    u.irr = pending;
-    u.irr_level = pending_level;
-    u
+    let c = ipi::counts_of(posting, word, nmi);
+    let more = vector_set_algebra::difference(edge, irr);
+    let again = vector_set_algebra::intersection(edge, irr);
+    let new = c.new + vector_set_search::count_of(more);
+    let merged = c.merged + vector_set_search::count_of(again);
+    Counts { new, merged }
 }

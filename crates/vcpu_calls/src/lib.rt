@@ -1,5 +1,9 @@
 // Guest calls on the caller's record and the registration count.
 ghost use mathlib.Core.Path.{_≡_};
+ghost use mathlib.Core.Bool.{not, _&&_};
+ghost use lib.Dec.{eqb};
+ghost use Rattle.vector_set.specs.Bits.{bits};
+ghost use Rattle.model.specs.Items.{pending};
 ghost use Rattle.model.specs.Codes.{accept};
 ghost use Rattle.model.specs.Requests.{forget, requestOf, serve};
 ghost use Rattle.model.specs.Events.{Act, vcpuVerdict};
@@ -60,6 +64,17 @@ fn register(v: Vcpu, registrations: u8) -> VcpuCalled
     )
 }
 
+// The caller's bit, where a self-IPI makes its vector pending; none where it was (7.20, 7.22).
+fn self_named(v: Vcpu, id: u32, x: u8) -> u64
+    ensures { λ r. ⌜ r ≡ bits (λ j. eqb j id && not (pending (Item.Vector x) v)) 0 32 ⌝ }
+{
+    let irr = v.irr;
+    if vector_set::contains(irr, x) {
+        return 0;
+    }
+    ipi::bit_of(id) as u64
+}
+
 // A call that touches the caller's record and the count alone. What was in flight is forgotten first (5.3).
 fn serve_local(v: Vcpu, id: u32, registrations: u8, o: Local) -> VcpuCalled
     ensures { λ r. ⌜ calledOut r ≡ callOn (serve o id registrations (forget v) .verdict) (Request.Local o) id registrations v ⌝ }
@@ -83,7 +98,7 @@ fn serve_local(v: Vcpu, id: u32, registrations: u8, o: Local) -> VcpuCalled
             done(e.value, u, registrations)
         }
         Local::SelfIpi(x) => done(
-            ipi::bit_of(id) as u64,
+            self_named(w, id, x),
             items::post_item(w, Item::Vector(x)),
             registrations,
         ),

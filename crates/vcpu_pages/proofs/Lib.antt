@@ -1,3 +1,6 @@
 pub mod PagesLaws
 pub mod Tests
+pub mod Joins
+pub mod Adds
+pub mod NoticeLaws
 pub mod Steps

@@ -6,27 +6,12 @@ use Prim.Native.Nat.{ℕ}
 use Rattle.vector_set.specs.Bits.{one}
 use Rattle.vector_set.proofs.Laws.{clash}
 use Rattle.model.specs.declared.Vcpu.{Vcpu}
-use Rattle.model.specs.Doorbell.{Part, partOf}
-use Rattle.model.specs.Codes.{Verdict, accept, refuse, Result, resultOf, accepted}
-use Rattle.model.specs.Events.{noticed, emptied, handBackResult}
-use Rattle.vcpu.specs.Records.{VcpuOut, noticeOn, handBackOn}
-use Rattle.vcpu_pages.specs.declared.NoticeTaken.{NoticeTaken}
-use Rattle.vcpu_pages.specs.Pages.{TakenOut, refusedNotice, takeOn, takenOut, handOn}
+use Rattle.model.specs.Codes.{Verdict, accept, refuse, Result, accepted}
+use Rattle.model.specs.Events.{emptied, handBackResult}
+use Rattle.vcpu.specs.Records.{VcpuOut, handBackOn}
+use Rattle.vcpu_pages.specs.Pages.{handOn}
 
 -- ---- with the record's step, they are the event's: by whether the answer r is a refusal
-module _ (a : Part) (v : Vcpu) (r : NoticeTaken) where
-  pub notice-refused : (g : Verdict) → takenOut r ≡ takeOn g a → accepted (resultOf (r .outcome)) ≡ false
-      → _≡_ {A = VcpuOut} (record { result = resultOf (r .outcome); vcpu = v }) (noticeOn g a v)
-  unfolding takeOn refusedNotice noticeOn
-  notice-refused (refuse c) e f = ap (λ (o : TakenOut). record { result = o .result; vcpu = v }) e
-  notice-refused accept e f = clash (ap one (sym f ∙ ap (λ (o : TakenOut). accepted (o .result)) e))
-
-  pub notice-accepted : (g : Verdict) → takenOut r ≡ takeOn g a → accepted (resultOf (r .outcome)) ≡ true
-      → _≡_ {A = VcpuOut} (record { result = resultOf (r .outcome); vcpu = noticed (partOf (r .part)) v }) (noticeOn g a v)
-  unfolding takeOn refusedNotice noticeOn
-  notice-accepted (refuse c) e t = clash (ap one (sym (ap (λ (o : TakenOut). accepted (o .result)) e) ∙ t))
-  notice-accepted accept e t = ap (λ (o : TakenOut). record { result = o .result; vcpu = noticed (o .part) v }) e
-
 module _ (l : ℕ) (iF sh : Bool) (v : Vcpu) (r : Result) where
   pub hand-back-refused : (g : Verdict) → r ≡ handOn g (handBackResult l (v .tpr) iF sh) → accepted r ≡ false
       → _≡_ {A = VcpuOut} (record { result = r; vcpu = v }) (handBackOn g l iF sh v)

@@ -3,25 +3,35 @@
 use mathlib.Core.Path.{_≡_, sym, ap, ap₂, _∙_}
 use mathlib.Core.Bool.{Bool, true, false}
 use mathlib.Core.List.{List}
-use Prim.Native.Nat.{ℕ, _<_}
+use Prim.Native.Nat.{ℕ, _<_, _≤_}
+use lib.ListN.{length}
+use Rattle.vector_set.specs.Sets.{collect, union}
+use Rattle.vector_set.proofs.Laws.{Words}
+use Rattle.model.specs.declared.Admission.the-variants.{Items}
 use Rattle.model.specs.declared.Outcome.{Outcome}
 use Rattle.model.specs.declared.Vcpu.{Vcpu}
 use Rattle.model.specs.declared.Module.{Module}
-use Rattle.model.specs.State.{size, vcpuAt, withVcpu}
-use Rattle.model.specs.Doorbell.{partOf, admitted, noticedPage, written}
-use Rattle.model.specs.Codes.{resultOf, accepted}
-use Rattle.model.specs.Events.{notice, handBack, at, vcpuVerdict, noticed, emptied, handed, handBackResult, step, outOf}
+use Rattle.model.specs.State.{size, vcpuAt, withVcpu, withIrr}
+use Rattle.model.specs.Doorbell.{bitOf, manyBit, announces, descriptor, admitsEdge, admitted, noticedPage, written}
+use Rattle.model.specs.Codes.{resultOf, admissionResult, accepted}
+use Rattle.model.specs.Events.{notice, handBack, at, vcpuVerdict, emptied, handed, handBackResult, step, outOf, noticedOut}
+use Rattle.ipi.specs.declared.Counts.{Counts}
+use Rattle.descriptor.specs.Requests.{requestedIn}
+use Rattle.doorbell.specs.Takes.{takenFrom, takenPage}
 use Rattle.vcpu_pages.specs.declared.NoticeTaken.{NoticeTaken}
-use Rattle.vcpu_pages.specs.Pages.{noticeVerdict, handBackVerdict, takeOn, takenOut, handOn}
-use Rattle.vcpu_pages.proofs.PagesLaws.{notice-refused, notice-accepted, hand-back-refused, hand-back-accepted}
+use Rattle.vcpu_pages.specs.Pages.{noticeVerdict, handBackVerdict, takeOn, handOn}
+use Rattle.vcpu_pages.proofs.Adds.{added, counts}
+use Rattle.vcpu_pages.proofs.NoticeLaws.{record-kept, record-one, still-asks, record-many}
+use Rattle.vcpu_pages.proofs.PagesLaws.{hand-back-refused, hand-back-accepted}
+use Rattle.vcpu.specs.Notices.{marksCounted}
 use Rattle.vcpu.specs.Records.{VcpuOut, noticeOn, handBackOn, pageOn}
 use Rattle.vcpu.proofs.Lift.{onRecord, lift-notice, lift-handBack}
-use Rattle.vcpu.proofs.Steps.{kept}
+use Rattle.vcpu.proofs.Steps.{kept, vmpl-in}
 
 -- ---- the events, by what they make of the record v of the vCPU i
 module _ (m : Module) (i : ℕ) (h : i < size m) (v : Vcpu) (here : v ≡ vcpuAt m i) where
   -- a notice that gave the record and the result o, and the page q
-  noticed-on : (p q : List ℕ) (o : VcpuOut) → o ≡ noticeOn (vcpuVerdict 0 0 v (notice p)) (admitted (m .vmpl) (v .allowed) p) v
+  pub noticed-on : (p q : List ℕ) (o : VcpuOut) → o ≡ noticeOn (vcpuVerdict 0 0 v (notice p)) (admitted (m .vmpl) (v .allowed) p) v
       → q ≡ pageOn (vcpuVerdict 0 0 v (notice p)) (noticedPage (m .vmpl) p) p → onRecord m i o q ≡ step m (at i (notice p))
   noticed-on p q o e f =
       ap₂ (λ (u : VcpuOut) (y : List ℕ). onRecord m i u y)
@@ -40,27 +50,46 @@ module _ (m : Module) (i : ℕ) (h : i < size m) (v : Vcpu) (here : v ≡ vcpuAt
   -- what taking a notice says of its answer r and the page q after it
   abbrev pub Takes : List ℕ → NoticeTaken → List ℕ → Type 0
   Takes p r q =
-      (takenOut r ≡ takeOn (noticeVerdict (v .phase) p) (admitted (m .vmpl) (v .allowed) p))
-      × (q ≡ pageOn (noticeVerdict (v .phase) p) (noticedPage (m .vmpl) p) p)
+      (r ≡ takeOn (noticeVerdict (v .phase) p) (takenFrom (m .vmpl) (v .allowed) p))
+      × (r .requested .posting .word < 8)
+      × (q ≡ pageOn (noticeVerdict (v .phase) p) (takenPage (m .vmpl) p) p)
+
+  module _ (p q : List ℕ) (r : NoticeTaken) (w : Takes p r q) where
+    pub notice-kept : r .changes ≡ false → Words (v .irr) → Words (v .«irr_level»)
+        → noticedOut (record { admission = r .admission; after = m }) q ≡ step m (at i (notice p))
+    unfolding vcpuVerdict
+    notice-kept f wi wl =
+        let z = record-kept (m .vmpl) v p q r wi wl w f in
+        kept m i h v here (admissionResult (r .admission)) q ∙ noticed-on p q _ (z .0) (z .1)
+
+    pub notice-one : r .changes ≡ true → r .requested .many ≡ false → Words (v .irr) → Words (v .«irr_level»)
+        → (c : Counts) → c ≡ counts v (r .requested)
+        → noticedOut (record { admission = Items (c .new) (c .merged); after = withVcpu m i (added v (r .requested)) }) q ≡ step m (at i (notice p))
+    unfolding vcpuVerdict
+    notice-one t f wi wl c e = let z = record-one (m .vmpl) v p q r w t wi wl f c e in noticed-on p q _ (z .0) (z .1)
+
+    pub marks-asked : r .changes ≡ true → r .requested .many ≡ true
+        → (256 ≤ length q) × (1 ≤ m .vmpl) × (m .vmpl ≤ 3) × (announces (m .vmpl) q ≡ true)
+        × (bitOf (descriptor (m .vmpl) q) manyBit ≡ true) × (r .requested ≡ requestedIn (v .allowed) (descriptor (m .vmpl) q))
+    marks-asked t f =
+        let z = still-asks (m .vmpl) v p q r w t f in
+        let l = vmpl-in m i h in
+        (z .0, l .0, l .1, z .1, z .2, z .3)
+
+    pub notice-many : r .changes ≡ true → r .requested .many ≡ true → Words (v .irr) → Words (v .«irr_level»)
+        → (e z : List ℕ) → e ≡ collect (admitsEdge (v .allowed) (descriptor (m .vmpl) q)) → z ≡ noticedPage (m .vmpl) q
+        → (c : Counts) → c ≡ marksCounted (counts v (r .requested)) e (added v (r .requested) .irr)
+        → (s : List ℕ) → s ≡ union (added v (r .requested) .irr) e
+        → noticedOut (record { admission = Items (c .new) (c .merged); after = withVcpu m i (withIrr s (added v (r .requested))) }) z
+        ≡ step m (at i (notice p))
+    unfolding vcpuVerdict
+    notice-many t f wi wl e z g j c k s u =
+        let y = record-many (m .vmpl) v p q r w t f wi wl e z g j c k s u in noticed-on p z _ (y .0) (y .1)
 
   abbrev pub Hands : List ℕ → Bool → Bool → Outcome → List ℕ → Type 0
   Hands p iF sh r q =
       (resultOf r ≡ handOn (handBackVerdict (v .phase) p) (handBackResult (m .vmpl) (v .tpr) iF sh))
       × (q ≡ pageOn (handBackVerdict (v .phase) p) (written (m .vmpl) (handed v) p) p)
-
-  module _ (p q : List ℕ) (r : NoticeTaken) (s : Takes p r q) where
-    pub notice-kept : accepted (resultOf (r .outcome)) ≡ false → outOf (record { outcome = r .outcome; after = m }) q ≡ step m (at i (notice p))
-    unfolding vcpuVerdict
-    notice-kept f =
-        kept m i h v here (resultOf (r .outcome)) q
-        ∙ noticed-on p q _ (notice-refused (admitted (m .vmpl) (v .allowed) p) v r (noticeVerdict (v .phase) p) (s .0) f) (s .1)
-
-    pub notice-taken : accepted (resultOf (r .outcome)) ≡ true → (w : Vcpu) → w ≡ noticed (partOf (r .part)) v
-        → outOf (record { outcome = r .outcome; after = withVcpu m i w }) q ≡ step m (at i (notice p))
-    unfolding vcpuVerdict
-    notice-taken t w e =
-        ap (λ (u : Vcpu). onRecord m i (record { result = resultOf (r .outcome); vcpu = u }) q) e
-        ∙ noticed-on p q _ (notice-accepted (admitted (m .vmpl) (v .allowed) p) v r (noticeVerdict (v .phase) p) (s .0) t) (s .1)
 
   module _ (p q : List ℕ) (iF sh : Bool) (r : Outcome) (s : Hands p iF sh r q) where
     pub hand-back-kept : accepted (resultOf r) ≡ false → outOf (record { outcome = r; after = m }) q ≡ step m (at i (handBack p iF sh))

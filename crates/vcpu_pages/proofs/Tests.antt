@@ -1,22 +1,27 @@
 -- An event with a page, by its two tests: whether the phase is right, and whether the page is long enough.
 -- Assumes nothing.
-use mathlib.Core.Path.{_≡_, refl, ap, _∙_}
+use mathlib.Core.Path.{_≡_, refl, ap}
 use mathlib.Core.Bool.{Bool, true, false}
 use mathlib.Core.List.{List, [], _∷_}
 use mathlib.Core.Logic.{inl, inr}
-use Prim.Native.Nat.{ℕ}
+use Prim.Native.Nat.{ℕ, _<_}
+use native.Mathlib.Omega.{arith}
 use types.Run.{OneOf}
 use denote.Enum.Declared.{tagOf}
 use Rattle.model.proofs.Phase as phase
+use Rattle.model.specs.declared.Admission.the-variants.{Items, Refused}
 use Rattle.model.specs.declared.Phase.{Phase}
 use Rattle.model.specs.declared.Phase.the-variants.{Active, Leaving, Left}
 use Rattle.model.specs.declared.Refusal.{Refusal}
 use Rattle.model.specs.declared.Refusal.the-variants.{ShortPage}
 use Rattle.model.specs.State.{isLeaving}
-use Rattle.model.specs.Doorbell.{longEnough, Part, items}
+use Rattle.model.specs.Doorbell.{longEnough}
 use Rattle.model.specs.Codes.{codeOf, Verdict, accept, refuse, done, refused}
 use Rattle.vcpu.specs.Records.{pageOn}
-use Rattle.vcpu_pages.specs.Pages.{pageVerdict, TakenOut, refusedNotice, takeOn, handOn}
+use Rattle.descriptor.specs.Requests.{noRequest}
+use Rattle.doorbell.specs.declared.Taken.{Taken}
+use Rattle.vcpu_pages.specs.declared.NoticeTaken.{NoticeTaken}
+use Rattle.vcpu_pages.specs.Pages.{pageVerdict, unchanged, takeOn, handOn}
 use Rattle.vector_set.proofs.Laws.{clash}
 
 -- a phase that is not the second
@@ -39,15 +44,18 @@ module _ (c : Refusal) (p : List ℕ) {b : Bool} where
 
 -- ---- the answer and the page after the event, which is q if it is accepted, by the verdict g
 module _ {g : Verdict} (p q : List ℕ) where
-  pub refuses-notice : (a : Part) (o : TakenOut) (c : Refusal) → g ≡ refuse c → o ≡ refusedNotice c → (o ≡ takeOn g a) × (p ≡ pageOn g q p)
-  unfolding takeOn pageOn
-  refuses-notice a o c e f = (rw e f, rw e)
+  pub refuses-notice : (s : Taken) (r : NoticeTaken) (c : Refusal) → g ≡ refuse c → r ≡ unchanged (Refused c)
+      → (r ≡ takeOn g s) × (r .requested .posting .word < 8) × (p ≡ pageOn g q p)
+  unfolding takeOn pageOn unchanged noRequest
+  refuses-notice s r c e f = (rw e f, rw f (omega arith), rw e)
 
-  pub takes-notice : (a b : Part) (n : ℕ) (r : List ℕ) → g ≡ accept → b ≡ a → n ≡ items b → r ≡ q
-      → (_≡_ {A = TakenOut} (record { result = done n; part = b }) (takeOn g a)) × (r ≡ pageOn g q p)
+  pub takes-notice : (s t : Taken) (r : List ℕ) → g ≡ accept → t ≡ s → t .requested .posting .word < 8 → r ≡ q
+      → (_≡_ {A = NoticeTaken} (record { changes = t .announced; admission = Items 0 0; requested = t .requested }) (takeOn g s))
+      × (t .requested .posting .word < 8) × (r ≡ pageOn g q p)
   unfolding takeOn pageOn
-  takes-notice a b n r e f h k = (
-    rw e (ap (λ (x : ℕ). record { result = done x; part = b }) h ∙ ap (λ (y : Part). record { result = done (items y); part = y }) f),
+  takes-notice s t r e f b k = (
+    rw e (ap (λ (u : Taken). record { changes = u .announced; admission = Items 0 0; requested = u .requested }) f),
+    b,
     rw e k,
   )
 

@@ -1,12 +1,13 @@
 // The events that lend a page: what a notice takes from it and what a hand-back writes into it, beside the step of the record.
-use model::Admitted;
-use model::Outcome;
+use descriptor::Requested;
+use model::Admission;
 
 pub mod hand_backs;
 pub mod notices;
 
-// The answer to a notice, and what it admits: nothing where it is refused.
+// What a notice takes beside its marks. Where it changes nothing, since it is refused or announces nothing, it is answered.
 pub struct NoticeTaken {
-    pub outcome: Outcome,
-    pub part: Admitted,
+    pub changes: bool,
+    pub admission: Admission,
+    pub requested: Requested,
 }

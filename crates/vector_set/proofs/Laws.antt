@@ -203,7 +203,7 @@ isEmpty-has s e = go (highest s) refl e
     go (some w) p q = clash (cc)
 
 -- ---- the number of members
-pub below-le : (s : List ℕ) (n : ℕ) → countBelow s n ≤ n
+below-le : (s : List ℕ) (n : ℕ) → countBelow s n ≤ n
 unfolding countBelow
 below-le s zero = omega arith
 below-le s (suc n) = let a = below-le s n in let b = one-le (has s n) in omega arith

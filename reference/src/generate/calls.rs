@@ -258,11 +258,29 @@ impl Generator {
     /// Another vCPU sends the item to this one.
     pub(super) fn send_to(&mut self, vcpu: u32, item: Item) -> Event {
         let sender = self.vcpu();
+        self.send(sender, u64::from(vcpu), item)
+    }
+
+    fn send(&mut self, sender: u32, destination: u64, item: Item) -> Event {
         let low = match item {
             Item::Nmi => 0x400,
             Item::Vector(v) => v as u64,
         };
         let bits = self.assert_and_trigger();
-        write(sender, ICR, u64::from(vcpu) * 0x1_0000_0000 + bits + low)
+        write(sender, ICR, destination * 0x1_0000_0000 + bits + low)
+    }
+
+    /// The item of an IPI again while a vCPU has it pending: the same write, one to everyone, or
+    /// one to that vCPU alone, by itself where it can be.
+    pub(super) fn send_again(&mut self, ipi: &Event, item: Item, vcpu: u32) -> Event {
+        match (self.random.below(3), item) {
+            (0, _) => ipi.clone(),
+            (1, _) => {
+                let sender = self.vcpu();
+                self.send(sender, 0xFFFF_FFFF, item)
+            }
+            (_, Item::Nmi) => self.send_to(vcpu, item),
+            (_, Item::Vector(v)) => write(vcpu, SELF_IPI, v as u64),
+        }
     }
 }

@@ -11,6 +11,7 @@ use std::collections::VecDeque;
 use std::io::{Result, Write};
 
 use crate::events::{step, Answer, Event, Shown};
+use crate::ipi::Ipi;
 use crate::odd_lines;
 use crate::random::Random;
 use crate::state::{Item, Module, Phase};
@@ -228,14 +229,44 @@ impl Generator {
 
     /// Events that belong behind the one just played.
     fn follow(&mut self, event: &Event, answer: &Answer) {
-        let (Event::Entry { vcpu, .. }, Answer::Entry(Ok(Shown::Presented(item)))) =
-            (event, answer)
-        else {
-            return;
-        };
+        match (event, answer, Ipi::of(event)) {
+            (Event::Entry { vcpu, .. }, Answer::Entry(Ok(Shown::Presented(item))), _) => {
+                self.after_presenting(*vcpu, *item);
+            }
+            (Event::Notice { vcpu, page }, Answer::Notice(Ok(a)), _) if a.new > 0 => {
+                self.after_admitting(*vcpu, page);
+            }
+            (_, Answer::Call(Ok(named)), Some(ipi)) if *named > 0 => {
+                self.after_sending(event, ipi.item, named.ilog2());
+            }
+            _ => {}
+        }
+    }
+
+    fn after_admitting(&mut self, vcpu: u32, page: &[u8]) {
+        if self.random.chance(15) {
+            let page = self.page_again(vcpu, page);
+            self.at_once(Event::Notice { vcpu, page });
+        }
+    }
+
+    fn after_sending(&mut self, ipi: &Event, item: Item, named: u32) {
+        if self.random.chance(25) {
+            let again = self.send_again(ipi, item, named);
+            self.at_once(again);
+        }
+    }
+
+    /// Next, ahead of what was decided on: the guest has not run in between.
+    fn at_once(&mut self, event: Event) {
+        self.queue.push_front(event);
+        self.left += 1;
+    }
+
+    fn after_presenting(&mut self, vcpu: u32, item: Item) {
         match self.random.weighted(&[30, 40, 30]) {
-            0 => self.intercepted(*vcpu, *item),
-            1 => self.queue.push_back(calls::eoi(*vcpu)),
+            0 => self.intercepted(vcpu, item),
+            1 => self.queue.push_back(calls::eoi(vcpu)),
             _ => {}
         }
     }

@@ -147,6 +147,40 @@ impl Generator {
         page
     }
 
+    /// A notice again while its items are pending: the same page, or one that brings items that are
+    /// pending and items that are not.
+    pub(super) fn page_again(&mut self, vcpu: u32, page: &[u8]) -> Vec<u8> {
+        if self.random.chance(40) {
+            page.to_vec()
+        } else {
+            self.mixed_page(vcpu)
+        }
+    }
+
+    /// Marks of allowed vectors, pending and not, often with the NMI or a level-sensitive vector.
+    fn mixed_page(&mut self, vcpu: u32) -> Vec<u8> {
+        let start = descriptor(self.module.vmpl);
+        let mut page = self.single_page(Item::Vector(0));
+        set_bit(&mut page, start, 14);
+        let record = self.module.record(vcpu);
+        let (allowed, pending) = (&record.allowed, &record.pending);
+        let new = allowed.without(pending);
+        for from in [allowed.without(&new), new] {
+            let from: Vec<usize> = from.members().into_iter().filter(|&v| v >= 31).collect();
+            for _ in 0..self.random.between(1, 3).min(from.len()) {
+                set_bit(&mut page, start, self.random.pick(&from));
+            }
+            if !from.is_empty() && self.random.chance(20) {
+                page[start] = self.random.pick(&from) as u8;
+                set_bit(&mut page, start, 10);
+            }
+        }
+        if self.random.chance(40) {
+            set_bit(&mut page, start, 8);
+        }
+        page
+    }
+
     /// Every bit of the announcement and of the descriptor set.
     pub(super) fn full_page(&mut self) -> Vec<u8> {
         let start = descriptor(self.module.vmpl);

@@ -3,8 +3,9 @@
 
 use reference::calls::call;
 use reference::codes::Code;
+use reference::events::{notice, Admission};
 use reference::set::VectorSet;
-use reference::state::{start, Module};
+use reference::state::{start, Module, Record};
 
 /// A fresh module of n vCPUs for L.
 pub fn fresh(n: u32, vmpl: u32) -> Module {
@@ -31,6 +32,19 @@ pub fn page(bytes: &[(usize, u8)]) -> Vec<u8> {
         page[offset] = byte;
     }
     page
+}
+
+/// A notice's answer: the items that became pending, and those that were (4.29, 4.37).
+pub fn counted(new: u32, merged: u32) -> Result<Admission, Code> {
+    Ok(Admission { new, merged })
+}
+
+/// The answer of a notice to vCPU 0 with this record and everything allowed, and the record after it.
+pub fn told(record: &Record, bytes: &[(usize, u8)]) -> (Result<Admission, Code>, Record) {
+    let mut m = fresh(2, 1);
+    m.records[0] = record.clone();
+    m.records[0].allowed = VectorSet::all();
+    (notice(&mut m, 0, &mut page(bytes)), m.records[0].clone())
 }
 
 pub fn read(m: &mut Module, vcpu: u32, register: u32) -> Result<u64, Code> {

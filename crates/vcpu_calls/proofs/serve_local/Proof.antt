@@ -1,6 +1,7 @@
 -- `vcpu_calls::serve_local` meets its contract: in each arm, what the callees ensure of the record that has forgotten what was in flight.
 -- Assumes nothing.
-use mathlib.Core.Path.{ap, _∙_}
+use mathlib.Core.Path.{ap, ap₂, _∙_}
+use mathlib.Core.Bool.{not, _&&_}
 use Prim.Native.Nat.{ℕ}
 use lib.Dec.{eqb}
 use borrow.Author.Needs.{needs}
@@ -11,7 +12,7 @@ use Rattle.model.specs.declared.Local.the-variants.{Features, Leave, Release, A
 use Rattle.model.specs.declared.Vcpu.{Vcpu}
 use Rattle.model.specs.State.{withAllowed, withTpr}
 use Rattle.model.specs.Registers.{registerValue, ended, endedLevel}
-use Rattle.model.specs.Items.{mark}
+use Rattle.model.specs.Items.{pending, mark}
 use Rattle.model.specs.Requests.{forget, leaveIf, always, serve}
 use Rattle.vcpu_steps.specs.declared.Ended.{Ended}
 use Rattle.vcpu_calls.proofs.CallsLaws.{served-as, registered-as}
@@ -108,8 +109,9 @@ returns-10 c =
     let x = o .given .0 .0 in
     let i = c .before .before .before .before .before .before .before .args .id in
     served-as _ (SelfIpi x) _ _ _ _ _ _ _ (o .given .1) (c .done9 .ensures)
-    (ap (λ (y : ℕ). always y (c .before .post-item .result) k) (c .before .before .bit-of .ensures)
-    ∙ ap (λ (u : Vcpu). always (bits (λ j. eqb j i) 0 32) u k) (c .before .post-item .ensures ∙ ap (mark (item.Vector x)) (w .ensures)))
+    (ap (λ (y : ℕ). always y (c .before .post-item .result) k) (c .before .before .self-named .ensures)
+    ∙ ap₂ (λ (s t : Vcpu). always (bits (λ j. eqb j i && not (pending (item.Vector x) s)) 0 32) t k)
+    (w .ensures) (c .before .post-item .ensures ∙ ap (mark (item.Vector x)) (w .ensures)))
 
 pub serve-local-spec : {M : Type 1} → statement M
 serve-local-spec =
@@ -144,7 +146,6 @@ serve-local-spec =
     (λ c κs. search needs)
     (λ c. search needs)
     (λ c κs. search needs)
-    (λ c. search needs)
     (λ c κs. search needs)
     (λ c κs. search needs)
     returns

@@ -1,5 +1,5 @@
 -- `gate_calls::ipis::send` meets its contract. The loop's invariant: the vCPUs below k have been gone through. Assumes nothing.
-use mathlib.Core.Path.{_≡_, ap, ap₂, _∙_}
+use mathlib.Core.Path.{_≡_, ap, ap₂, _∙_, subst}
 use mathlib.Core.Bool.{_&&_}
 use mathlib.Core.Logic.{⊎-elim}
 use Prim.Native.Nat.{ℕ, _-_, _<_, _≤_}
@@ -7,13 +7,15 @@ use native.Mathlib.Omega.{arith}
 use lib.ListN.{length, getD, length-set}
 use borrow.Author.Needs.{needs}
 use Rattle.vector_set.specs.Bits.{bitAt}
+use Rattle.vector_set.proofs.Laws.{Words}
+use Rattle.vector_set.proofs.WordLaws.{field-words}
 use Rattle.model.specs.declared.Vcpu.{Vcpu}
 use Rattle.model.specs.declared.Module.{Module}
 use Rattle.model.specs.State.{isActive, size, vcpuAt, withVcpu}
 use Rattle.model.specs.Items.{mark}
 use Rattle.model.specs.Ipi.{icrItem}
-use Rattle.ipi.specs.Posts.{postingOf}
-use Rattle.ipi.proofs.Marks.{byte-sent, word-small}
+use Rattle.ipi.specs.Posts.{postingOf, posted, isNew}
+use Rattle.ipi.proofs.Marks.{byte-sent, word-small, words-before}
 use Rattle.vcpu.specs.Records.{sendAt, sendBelow, delivered}
 use Rattle.vcpu.proofs.Stores.{size-le}
 use Rattle.vcpu.proofs.Steps.{records-32, record-is}
@@ -23,11 +25,11 @@ use Rattle.gate_calls.proofs.ipis.send.Statement.{statement}
 use Rattle.gate_calls.proofs.ipis.send.Tie as tie
 
 abbrev Inv-loop : tie.InvT-loop
-Inv-loop caller value n targets posting after₀ mask₀ k₀ after mask k =
+Inv-loop caller value n targets posting w after₀ mask₀ k₀ after mask k =
     (k ≤ n) × (length (after .vcpus) ≡ 32) × (sentTo mask after ≡ sendBelow caller value after₀ k)
 
 abbrev μ-loop : tie.MeasureT-loop
-μ-loop caller value n targets posting after₀ mask₀ k₀ after mask k = n - k
+μ-loop caller value n targets posting w after₀ mask₀ k₀ after mask k = n - k
 
 -- the count of the module
 counted : (c : tie.After-served Inv-loop μ-loop) → c .served .result ≡ size (c .before .args .m)
@@ -71,6 +73,9 @@ module _ (c : tie.After-reaches Inv-loop μ-loop) where
   told : c .reaches .result ≡ (bitAt (post-of .before .before .targets-of .result) k && isActive (vcpuAt g k .phase))
   told = c .reaches .ensures ∙ ap (λ (v : Vcpu). bitAt (post-of .before .before .targets-of .result) k && isActive (v .phase)) (there _)
 
+  in-word : post-of .posting-of .result .word < 8
+  in-word = rw (posts post-of) (word-small _ (byte-sent (start .args .value)))
+
 -- the record, where it is reached, and the bits after the turn
 turned : (c : tie.Joined1 Inv-loop μ-loop)
     → (length (c .if1 .after .vcpus) ≡ 32)
@@ -83,12 +88,17 @@ turned c =
     let b = turn r .before .loop .mask in
     let targets = post-of r .before .before .targets-of in
     let all = turn r .before .loop .inv .1 in
+    let p = post-of r .posting-of .result in
     ⊎-elim
     (λ w. (
-      ap (λ (h : Module). length (h .vcpus)) (w .2) ∙ length-set (g r .vcpus) (k r) _ ∙ all,
-      ap₂ sentTo (w .3) (w .2)
+      ap (λ (h : Module). length (h .vcpus)) (w .4) ∙ length-set (g r .vcpus) (k r) _ ∙ all,
+      ap₂ sentTo (w .5) (w .4)
           ∙ reached (a .caller) (a .value) (k r) (below (turn r)) (g r) b (targets .result) (targets .ensures) (r .reaches .result) (told r) (w .0 .taken)
-          (post-of r .posting-of .result) (posts (post-of r)) (w .1 .result) (λ y e. w .1 .ensures .1 y e ∙ ap (mark y) (there r _)),
+          p (posts (post-of r))
+          (words-before p (vcpuAt (g r) (k r)) (subst (λ (u : Vcpu). Words (u .irr)) (w .3 .ensures .0 ∙ ap (posted p) (there r _))
+          (field-words (w .3 .result .irr) _ (w .3 .ok .1 .1 .1 .0))))
+          (w .2 .result) (w .2 .ensures ∙ ap (λ (v : Vcpu). isNew p (getD (v .irr) (p .word) 0) (v .nmi)) (there r _))
+          (w .3 .result) (λ y e. w .3 .ensures .1 y e ∙ ap (mark y) (there r _)),
     ))
     (λ w. (
       ap (λ (h : Module). length (h .vcpus)) (w .1) ∙ all,
@@ -129,11 +139,15 @@ send-spec =
     (λ c. omega (arith, below c))
     (λ c. omega (arith, below c))
     (λ c κs. below (c .before))
-    (λ c κs. let p = post-of (c .before) in rw (posts p) (word-small _ (byte-sent (p .before .before .before .before .args .value))))
-    (λ c. omega (arith, below (c .before .before .before .before)))
-    (λ c. omega (arith, below (c .before .before .before .before)))
-    (λ c. omega (arith, below (c .before .before .before .before)))
-    (λ c. omega (arith, below (c .before .before .before .before)))
+    (λ c. omega (arith, in-word (c .before .before)))
+    (λ c. in-word (c .before .before))
+    (λ c κs. search needs)
+    (λ c κs. in-word (c .before .before .before))
+    (λ c. omega (arith, below (c .before .before .before .before .before .before)))
+    (λ c. omega (arith, below (c .before .before .before .before .before .before)))
+    (λ c. search needs)
+    (λ c. omega (arith, below (c .before .before .before .before .before .before)))
+    (λ c. omega (arith, below (c .before .before .before .before .before .before)))
     (λ c. omega (arith, below (c .before .before .before)))
     (λ c. omega arith)
     loop-again

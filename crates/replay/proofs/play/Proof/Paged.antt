@@ -14,7 +14,10 @@ use types.Match.{vrt, in-variant, look-tag}
 use types.Run.{assigns-last, switches-on, exec}
 use denote.Enum.Laws as EL
 use Rattle.model.specs.declared.Module.{Module}
-use Rattle.model.specs.declared.Outcome.{Outcome}
+use Rattle.model.proofs.Admission as D
+use Rattle.model.proofs.Admission.Laws as D′
+use Rattle.model.proofs.Outcome as O
+use Rattle.model.proofs.Outcome.Laws as O′
 use Rattle.trace.specs.declared.Event.{Event}
 use Rattle.trace.specs.declared.Event.the-variants as event
 use Rattle.trace.proofs.Event as X
@@ -27,7 +30,7 @@ use Rattle.gate_mut_pages.proofs.notice_in.Symbol.{name as #notice}
 use Rattle.gate_mut_pages.proofs.hand_back_in as hand-back
 use Rattle.gate_mut_pages.proofs.hand_back_in.Symbol.{name as #hand-back}
 use Rattle.console.proofs.front.Symbol.{name as #front}
-use Rattle.gate_mut.proofs.Answers.{typedO}
+use Rattle.gate_mut.proofs.Answers.{machO, typedO, machA, typedA}
 use Rattle.gate_mut.proofs.Frame.{Blocks, var, sets}
 use Rattle.replay.proofs.Arms.{nth-arm}
 use Rattle.replay.proofs.Call.{big-lit}
@@ -70,15 +73,16 @@ module _ {M : Type 1} (𝓤 : URA M) (H : Heap 𝓤) (A : Atoms 𝓤) (W : Given
       fronts 𝓤 H A W memory run m p h ys 𝓣 ! front-known n n-fits (λ β γ₂ lent. and-then ! (var ! 31 refl) (and-then ! (var ! 12 refl) (no-more !)))
       (λ β γ₂ l r room.
       land ! (from ! (stop !)) (init ! 30 refl (tt, (tt, (record { fits = room .0 }, tt)))) $
-      pages 𝓤 H A W memory run m p h ys 𝓣 ! [] tt (notice.clauses 𝓤 H A memory run) known i i-fits β γ₂ l r (λ α. tt) (λ α. tt) (λ α. tt) (λ α. tt)
+      pages 𝓤 H A W memory run m p h ys 𝓣 ! [] tt D.the-row machA (EL.tells D.the-type D′.the-laws)
+      (notice.clauses 𝓤 H A memory run) known i i-fits β γ₂ l r (λ α. tt) (λ α. tt) (λ α. tt) (λ α. tt)
       (λ α γ₁. tt) (λ α γ₁. id⊢ 𝓤 (emp 𝓤))
       (λ α γ₁ lent. and-then ! (var ! 27 refl) (and-then ! (var ! 10 refl) (and-then ! (var ! 28 refl) (no-more !)))) (λ a a-is h′ zs.
-      let is = EL.owes N.the-type N′.the-laws (answer.Outcome a) (a-is, tt) in
-      land ! (from ! (stop !)) (init ! 27 refl (typedO 𝓤 H A W a a-is)) $
+      let is = EL.owes N.the-type N′.the-laws (answer.Admission a) (a-is, tt) in
+      land ! (from ! (stop !)) (init ! 27 refl (typedA 𝓤 H A W a a-is)) $
       assigns-last ! (agg ! (and-then ! (lit ! tt) (and-then ! (var ! 27 refl) (no-more !)))) (from ! (stop !))
-      (init ! 26 refl (typedN 𝓤 H A W (answer.Outcome a) is)) $ exec ! (𝓣 .C) (𝓣 .Λ) En t-2 (atRet En (Post′ e)) $
-      sets ! (of-opd ! (var ! 26 refl)) 4 refl (typedN 𝓤 H A W (answer.Outcome a) is) $
-      shape.leaves 𝓤 H A W memory run m p h ys 𝓣 bs e (answer.Outcome a) is h′ zs refl))
+      (init ! 26 refl (typedN 𝓤 H A W (answer.Admission a) is)) $ exec ! (𝓣 .C) (𝓣 .Λ) En t-2 (atRet En (Post′ e)) $
+      sets ! (of-opd ! (var ! 26 refl)) 4 refl (typedN 𝓤 H A W (answer.Admission a) is) $
+      shape.leaves 𝓤 H A W memory run m p h ys 𝓣 bs e (answer.Admission a) is h′ zs refl))
 
   pub hand-back-arm : Triple 𝓤 (𝓣 .C #front) (Fronts 𝓤 H A W memory run m p h ys)
       → Triple 𝓤 (𝓣 .C #hand-back) (shape.HandsBack 𝓤 H A W memory run m p h ys) → (i : ℕ) (x y : Bool) (n : ℕ)
@@ -103,8 +107,8 @@ module _ {M : Type 1} (𝓤 : URA M) (H : Heap 𝓤) (A : Atoms 𝓤) (W : Given
       fronts 𝓤 H A W memory run m p h ys 𝓣 ! front-known n n-fits (λ β γ₂ lent. and-then ! (var ! 42 refl) (and-then ! (var ! 25 refl) (no-more !)))
       (λ β γ₂ l r room.
       land ! (from ! (stop !)) (init ! 41 refl (tt, (tt, (record { fits = room .0 }, tt)))) $
-      pages 𝓤 H A W memory run m p h ys 𝓣 ! (plain (λ _. bool) ∷ plain (λ _. bool) ∷ []) (yes, (yes, tt)) (hand-back.clauses 𝓤 H A memory run) known i
-      i-fits β γ₂ l r (λ α. (bool-makes 𝓤 H A W, (bool-makes 𝓤 H A W, tt)))
+      pages 𝓤 H A W memory run m p h ys 𝓣 ! (plain (λ _. bool) ∷ plain (λ _. bool) ∷ []) (yes, (yes, tt)) O.the-row machO (EL.tells O.the-type O′.the-laws)
+      (hand-back.clauses 𝓤 H A memory run) known i i-fits β γ₂ l r (λ α. (bool-makes 𝓤 H A W, (bool-makes 𝓤 H A W, tt)))
       (λ α. (x, (y, tt))) (λ α. (vbool x ∷ [], (vbool y ∷ [], tt))) (λ α. (refl, (refl, tt))) (λ α γ₁. tt) (λ α γ₁. id⊢ 𝓤 (emp 𝓤))
       (λ α γ₁ lent. and-then ! (var ! 38 refl) (and-then ! (var ! 21 refl) (and-then ! (var ! 39 refl)
       (and-then ! (var ! 22 refl) (and-then ! (var ! 23 refl) (no-more !)))))) (λ a a-is h′ zs.

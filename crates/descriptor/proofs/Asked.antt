@@ -1,0 +1,20 @@
+-- What a descriptor asks for beside its marks, from what the code reads of it. Assumes nothing.
+use mathlib.Core.Path.{_≡_}
+use mathlib.Core.Bool.{Bool, cond}
+use mathlib.Core.List.{List}
+use Prim.Native.Nat.{ℕ, _/_}
+use Rattle.model.specs.Doorbell.{bitOf, levelBit, manyBit, vectorField, admitsNmi}
+use Rattle.descriptor.specs.declared.Requested.{Requested}
+use Rattle.descriptor.specs.Requests.{singleBit, levelOf, requestedIn}
+
+module _ (a d : List ℕ) where
+  pub level-bits : {s l : ℕ} {t : Bool} → t ≡ bitOf d levelBit → s ≡ singleBit a (vectorField d) → l ≡ cond t s 0 → l ≡ levelOf a d
+  unfolding levelOf
+  level-bits p q e = rw (← p, ← q) e
+
+  pub request-is : {n : Bool} {s l : ℕ} (m : Bool) → bitOf d manyBit ≡ m → n ≡ admitsNmi a d → s ≡ singleBit a (vectorField d) → l ≡ levelOf a d
+      → _≡_ {A = Requested}
+      (record { posting = record { nmi = n; word = vectorField d / 32; bits = cond m l s }; level = l; many = m })
+      (requestedIn a d)
+  unfolding requestedIn
+  request-is m e p q r = rw (e, ← p, ← q, ← r)

@@ -1,0 +1,60 @@
+-- A posting has one bit at most: whether a word has it, by its mask. Assumes nothing.
+use mathlib.Core.Path.{_≡_, refl, sym, ap, _∙_}
+use mathlib.Core.Bool.{Bool, true, false, not}
+use Prim.Native.Nat.{ℕ, _+_, _-_, _*_, _/_, _%_, _^_, _<_}
+use native.Mathlib.Omega.{arith}
+use native.Mathlib.Nat.{pow-succ', add-comm, zero-mul}
+use native.Mathlib.Numerals.{add-one}
+use lib.Bits.{bitAnd, and-comm, and-high, and-zero-l}
+use lib.Dec.{eqb}
+use lib.ListN.{getD}
+use lib.Pow.{pow-pos}
+use mir.Val.{boolByte}
+use borrow.Author.Tests.{ne-eqb}
+use Rattle.vector_set.specs.Bits.{one, bitAt}
+use Rattle.vector_set.specs.Sets.{has}
+use Rattle.vector_set.proofs.BitLaws.{bit-number, bit-not}
+use Rattle.vector_set.proofs.Laws.{Words}
+use Rattle.model.specs.declared.Item.{Item}
+use Rattle.model.specs.declared.Item.the-variants.{Nmi, Vector}
+use Rattle.model.specs.declared.Vcpu.{Vcpu}
+use Rattle.model.specs.Items.{pending}
+use Rattle.ipi.specs.Posts.{postingOf, isNew}
+use Rattle.ipi.proofs.Marks.{Byte}
+
+-- a test as a number of the code
+pub byte-one : (b : Bool) → boolByte b ≡ one b
+byte-one true = refl
+byte-one false = refl
+
+-- ---- the bit j
+meets : (j x : ℕ) → bitAnd (2 ^ j) x ≡ one (bitAt x j) * 2 ^ j
+meets j x =
+    let p : 2 ^ (1 + j) ≡ 2 * 2 ^ j = rw (add-comm 1 j, add-one j) (pow-succ' 2 j) in
+    let e : 2 ^ (1 + j) - 2 ^ j ≡ 2 ^ j = omega arith in
+    and-comm (2 ^ j) x ∙ ap (bitAnd x) (sym e) ∙ and-high x 1 j ∙ ap (λ (y : ℕ). y * 2 ^ j) (sym (bit-number x j))
+
+is-set : (j : ℕ) (b : Bool) → not (eqb (one b * 2 ^ j) 0) ≡ b
+is-set j true = rw (ne-eqb (1 * 2 ^ j) 0 (λ (q : 1 * 2 ^ j ≡ 0). let z : ⊥ = omega (arith, pow-pos j) in z))
+is-set j false = rw (zero-mul (2 ^ j))
+
+-- a word has the bit
+pub single-meets : (j x : ℕ) → not (eqb (bitAnd (2 ^ j) x) 0) ≡ bitAt x j
+single-meets j x = rw (meets j x) (is-set j (bitAt x j))
+
+-- a word has it not
+pub single-adds : (j x : ℕ) → j < 32 → x < 2 ^ 32 → not (eqb (bitAnd (2 ^ j) (2 ^ 32 - 1 - x)) 0) ≡ not (bitAt x j)
+single-adds j x l h = single-meets j (2 ^ 32 - 1 - x) ∙ bit-not 32 x j h l
+
+-- ---- no bit: nothing is added, nothing was there
+pub none-meets : (x : ℕ) → not (eqb (bitAnd 0 x) 0) ≡ false
+none-meets x = ap (λ (y : ℕ). not (eqb y 0)) (and-zero-l x)
+
+pub none-adds : (x : ℕ) → not (eqb (bitAnd 0 (2 ^ 32 - 1 - x)) 0) ≡ false
+none-adds x = none-meets (2 ^ 32 - 1 - x)
+
+-- ---- an item's posting makes it pending where it was not
+pub new-is : (y : Item) (v : Vcpu) → Byte y → Words (v .irr) → isNew (postingOf y) (getD (v .irr) (postingOf y .word) 0) (v .nmi) ≡ not (pending y v)
+unfolding isNew postingOf has
+new-is Nmi v b ws = refl
+new-is (Vector x) v b ws = single-adds (x % 32) (getD (v .irr) (x / 32) 0) (omega arith) (ws .small (x / 32) (omega (arith, b)))

@@ -1,0 +1,51 @@
+-- `vcpu::notices::count_marks` meets its contract: at most two items beside the vectors of a set. Assumes nothing.
+use mathlib.Core.Path.{_≡_}
+use mathlib.Core.Bool.{Bool, not, _&&_}
+use Prim.Native.Nat.{ℕ, _≤_}
+use native.Mathlib.Omega.{arith}
+use borrow.Author.Needs.{needs}
+use Rattle.vector_set.proofs.Laws.{one-le, count-le}
+use Rattle.ipi.specs.declared.Counts.{Counts}
+use Rattle.ipi.specs.declared.Posting.{Posting}
+use Rattle.ipi.specs.Posts.{addsBit, meetsBit, countsOf}
+use Rattle.vcpu.specs.Notices.{marksCounted}
+use Rattle.vcpu.proofs.notices.count_marks.Statement.{statement}
+use Rattle.vcpu.proofs.notices.count_marks.Tie as tie
+
+few : (p : Posting) (x : ℕ) (b : Bool) (c : Counts) → c ≡ countsOf p x b → (c .new ≤ 2) × (c .merged ≤ 2)
+unfolding countsOf
+few p x b c e =
+    rw e (omega (arith, one-le (p .nmi && not b), one-le (addsBit p x)), omega (arith, one-le (p .nmi && b), one-le (meetsBit p x)))
+
+of-start : (c : tie.After-counts-of) → (c .counts-of .result .new ≤ 2) × (c .counts-of .result .merged ≤ 2)
+of-start c = let a = c .before .args in few (a .posting) (a .word) (a .nmi) (c .counts-of .result) (c .counts-of .ensures)
+
+add-new : tie.Need-add-new
+add-new c = omega (arith, of-start (c .before .before .before .before) .0, count-le (c .before .before .before .difference .result))
+
+add-merged : tie.Need-add-merged
+add-merged c =
+    let i = c .before .before .before .before in
+    omega (arith, of-start (i .before .before) .1, count-le (i .intersection .result))
+
+returns : tie.Need-returns
+unfolding marksCounted
+returns c =
+    let n = c .before .before .before in
+    let i = n .before in
+    let d = i .before in
+    let k = d .before in
+    cc (c .before .count-of2 .ensures, n .count-of .ensures, i .intersection .ensures, d .difference .ensures, k .counts-of .ensures)
+
+pub count-marks-spec : {M : Type 1} → statement M
+count-marks-spec =
+    tie.close
+    (tie.spec
+    (λ c κs. search needs)
+    (λ c κs. search needs)
+    (λ c κs. search needs)
+    (λ c κs. search needs)
+    add-new
+    (λ c κs. search needs)
+    add-merged
+    returns)

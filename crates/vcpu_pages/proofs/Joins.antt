@@ -1,0 +1,120 @@
+-- A word of a set with at most one more vector in it, and what is counted of that vector and of further ones. Assumes nothing.
+use mathlib.Core.Path.{_≡_, refl, sym, ap, ap₂, _∙_}
+use mathlib.Core.Bool.{Bool, true, false, cond, not, _&&_, _||_, and-true, and-false, or-false, or-comm}
+use mathlib.Core.List.{List}
+use Prim.Native.Nat.{ℕ, _+_, _/_, _%_, _^_, _-_, _<_}
+use native.Mathlib.Omega.{arith}
+use lib.Bits.{bitAnd, bitOr, or-zero-r, and-zero-l, and-comm}
+use lib.Dec.{eqb}
+use lib.ListN.{getD, set}
+use lib.Seq.{set-getD}
+use borrow.Author.Tests.{eq-eqb, ne-eqb}
+use Rattle.vector_set.specs.Bits.{one, bitAt}
+use Rattle.vector_set.specs.Sets.{has, collect, insert, union, difference, intersection, count}
+use Rattle.vector_set.proofs.BitLaws.{clash, bit-not}
+use Rattle.vector_set.proofs.Laws.{Words, has-collect, has-difference, has-intersection, collect-ext, collect-is}
+use Rattle.vector_set.proofs.Counts.{count-sum, count-single}
+use Rattle.vector_set.proofs.WordLaws.{one-shl, insert-word}
+use Rattle.descriptor.proofs.Masks.{mask-test}
+use Rattle.ipi.specs.Posts.{countsOf}
+
+-- ---- one bit against a word
+single-meets : (j x : ℕ) → not (eqb (bitAnd (2 ^ j) x) 0) ≡ bitAt x j
+single-meets j x = ap (λ (y : ℕ). not (eqb y 0)) (and-comm (2 ^ j) x) ∙ mask-test j x
+
+single-adds : (j x : ℕ) → j < 32 → x < 2 ^ 32 → not (eqb (bitAnd (2 ^ j) (2 ^ 32 - 1 - x)) 0) ≡ not (bitAt x j)
+single-adds j x l h = single-meets j (2 ^ 32 - 1 - x) ∙ bit-not 32 x j h l
+
+-- no bit meets none
+none-meets : (x : ℕ) → not (eqb (bitAnd 0 x) 0) ≡ false
+none-meets x = ap (λ (y : ℕ). not (eqb y 0)) (and-zero-l x)
+
+-- ---- Bool answers: p a further vector, q the one vector, r pending before
+new-apart : (p q r : Bool) → (p && q) ≡ false → one ((p || q) && not r) ≡ one (p && not (r || q)) + one (q && not r)
+new-apart true true r e = clash (ap one (sym e))
+new-apart true false true e = refl
+new-apart true false false e = refl
+new-apart false true true e = refl
+new-apart false true false e = refl
+new-apart false false r e = refl
+
+merged-apart : (p q r : Bool) → (p && q) ≡ false → one ((p || q) && r) ≡ one (p && (r || q)) + one (q && r)
+merged-apart true true r e = clash (ap one (sym e))
+merged-apart true false true e = refl
+merged-apart true false false e = refl
+merged-apart false true true e = refl
+merged-apart false true false e = refl
+merged-apart false false r e = refl
+
+-- ---- the vector x, if t, added to the set s by its word
+module _ (s : List ℕ) (ws : Words s) (x : ℕ) (small : x < 256) where
+  abbrev pub wider : Bool → List ℕ
+  wider t = set s (x / 32) (bitOr (getD s (x / 32) 0) (cond t (2 ^ (x % 32)) 0))
+
+  -- g says which vector that is
+  pub wider-is : (t : Bool) (g : ℕ → Bool) → ((y : ℕ) → y < 256 → g y ≡ (t && eqb y x)) → wider t ≡ collect (λ y. has s y || g y)
+  unfolding insert
+  wider-is true g h =
+      ap (λ (b : ℕ). set s (x / 32) (bitOr (getD s (x / 32) 0) b)) (sym (one-shl (x % 32) (omega arith))) ∙ insert-word s x ws small
+      ∙ collect-ext (λ y. eqb y x || has s y) (λ y. has s y || g y)
+      (λ y l. or-comm (eqb y x) (has s y) ∙ ap (λ (b : Bool). has s y || b) (sym (h y l)))
+  wider-is false g h =
+      ap (set s (x / 32)) (or-zero-r (getD s (x / 32) 0)) ∙ set-getD s (x / 32) 0
+      ∙ collect-is (λ y. has s y || g y) s ws (λ y l. sym (ap (λ (b : Bool). has s y || b) (h y l) ∙ or-false (has s y)))
+
+  -- what a posting of it and of the NMI, if n, counts where the NMI was pending or not
+  pub counts-are : (t n b : Bool)
+      → countsOf (record { nmi = n; word = x / 32; bits = cond t (2 ^ (x % 32)) 0 }) (getD s (x / 32) 0) b
+      ≡ record { new = one (n && not b) + one (t && not (has s x)); merged = one (n && b) + one (t && has s x) }
+  unfolding countsOf has
+  counts-are true n b =
+      ap₂ (λ (p q : Bool). record { new = one (n && not b) + one p; merged = one (n && b) + one q })
+      (single-adds (x % 32) (getD s (x / 32) 0) (omega arith) (ws .small (x / 32) (omega arith))) (single-meets (x % 32) (getD s (x / 32) 0))
+  counts-are false n b =
+      ap₂ (λ (p q : Bool). record { new = one (n && not b) + one p; merged = one (n && b) + one q })
+      (none-meets (2 ^ 32 - 1 - getD s (x / 32) 0)) (none-meets (getD s (x / 32) 0))
+
+  module _ (t : Bool) (g : ℕ → Bool) (h : (y : ℕ) → y < 256 → g y ≡ (t && eqb y x)) where
+    -- it is counted where f holds of whether it was pending
+    pub counted : (f : Bool → Bool) → count (collect (λ y. g y && f (has s y))) ≡ one (t && f (has s x))
+    counted f =
+        count-single (collect (λ y. g y && f (has s y))) x small
+        (λ y l n. has-collect (λ y. g y && f (has s y)) y l
+        ∙ ap (λ (b : Bool). b && f (has s y)) (h y l ∙ ap (λ (b : Bool). t && b) (ne-eqb y x n) ∙ and-false t))
+        ∙ ap one (has-collect (λ y. g y && f (has s y)) x small
+        ∙ ap (λ (b : Bool). b && f (has s x)) (h x small ∙ ap (λ (b : Bool). t && b) (eq-eqb x x refl) ∙ and-true t))
+
+    has-wider : (y : ℕ) → y < 256 → has (wider t) y ≡ (has s y || g y)
+    has-wider y l = ap (λ (z : List ℕ). has z y) (wider-is t g h) ∙ has-collect (λ y. has s y || g y) y l
+
+    -- ---- with the vectors of e, of which it is none
+    module _ (e : List ℕ) (apart : (y : ℕ) → y < 256 → (has e y && g y) ≡ false) where
+      pub union-is : union (wider t) e ≡ collect (λ y. has s y || (has e y || g y))
+      unfolding union
+      union-is =
+          collect-ext (λ y. has (wider t) y || has e y) (λ y. has s y || (has e y || g y))
+          (λ y l. ap (λ (b : Bool). b || has e y) (has-wider y l) ∙ turn (has s y) (g y) (has e y))
+        where
+          turn : (a b c : Bool) → (a || b || c) ≡ (a || (c || b))
+          turn true b c = refl
+          turn false b c = or-comm b c
+
+      pub more-new : one (t && not (has s x)) + count (difference e (wider t)) ≡ count (collect (λ y. (has e y || g y) && not (has s y)))
+      more-new =
+          let c = counted not in
+          let d = count-sum (difference e (wider t)) (collect (λ y. g y && not (has s y))) (collect (λ y. (has e y || g y) && not (has s y)))
+          (λ y l. ap one (has-collect (λ y. (has e y || g y) && not (has s y)) y l) ∙ new-apart (has e y) (g y) (has s y) (apart y l)
+          ∙ ap₂ (λ (a b : Bool). one a + one b)
+          (sym (has-difference e (wider t) y l ∙ ap (λ (b : Bool). has e y && not b) (has-wider y l)))
+          (sym (has-collect (λ y. g y && not (has s y)) y l))) in
+          omega arith
+
+      pub more-merged : one (t && has s x) + count (intersection e (wider t)) ≡ count (collect (λ y. (has e y || g y) && has s y))
+      more-merged =
+          let c = counted (λ b. b) in
+          let d = count-sum (intersection e (wider t)) (collect (λ y. g y && has s y)) (collect (λ y. (has e y || g y) && has s y))
+          (λ y l. ap one (has-collect (λ y. (has e y || g y) && has s y) y l) ∙ merged-apart (has e y) (g y) (has s y) (apart y l)
+          ∙ ap₂ (λ (a b : Bool). one a + one b)
+          (sym (has-intersection e (wider t) y l ∙ ap (λ (b : Bool). has e y && b) (has-wider y l)))
+          (sym (has-collect (λ y. g y && has s y) y l))) in
+          omega arith

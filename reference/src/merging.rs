@@ -1,0 +1,137 @@
+//! How often the requests of a trace meet what is pending, in service or in flight. Answers alone do
+//! not tell whom an IPI reached, so the trace is played.
+
+use std::collections::BTreeMap;
+use std::io::{BufRead, Result};
+
+use crate::coverage::{listed, report};
+use crate::events::{step, Answer, Event};
+use crate::ipi::Ipi;
+use crate::lines::Lines;
+use crate::page::{admitted, Admitted};
+use crate::state::{Item, Module, Phase, Record};
+use crate::trace::{read, Line};
+
+/// Of an accepted notice each kind that one of its items has, of an accepted IPI the one it has.
+const EXPECTED: [&str; 15] = [
+    "notice, NMI, was pending",
+    "notice, level-sensitive, was pending as edge",
+    "notice, edge, was pending as level-sensitive",
+    "notice, in service and not pending",
+    "notice, in flight and not pending",
+    "vector IPI, nobody reached",
+    "vector IPI, all reached are named",
+    "vector IPI, some reached are not named",
+    "vector IPI, none reached is named",
+    "NMI IPI, nobody reached",
+    "NMI IPI, all reached are named",
+    "NMI IPI, some reached are not named",
+    "NMI IPI, none reached is named",
+    "self-IPI, named",
+    "self-IPI, not named",
+];
+
+pub struct Merging {
+    counts: BTreeMap<String, u64>,
+}
+
+impl Merging {
+    pub fn of(trace: impl BufRead) -> Result<Merging> {
+        let mut lines = Lines::new(trace);
+        let mut line = Vec::new();
+        let mut module = Module::refused();
+        let mut counts = BTreeMap::new();
+        while lines.next(&mut line)? {
+            let Line::Event(event) = read(&line) else {
+                continue;
+            };
+            let before = module.clone();
+            let answer = step(&mut module, &mut event.clone());
+            for kind in kinds(&before, &event, &answer) {
+                *counts.entry(kind).or_insert(0) += 1;
+            }
+        }
+        Ok(Merging { counts })
+    }
+
+    fn count(&self, kind: &str) -> u64 {
+        self.counts.get(kind).copied().unwrap_or(0)
+    }
+
+    /// Of the kind that is met least.
+    pub fn fewest(&self) -> u64 {
+        let counts = EXPECTED.iter().map(|kind| self.count(kind));
+        counts.min().expect("there are kinds")
+    }
+
+    pub fn missing(&self) -> Vec<&'static str> {
+        EXPECTED
+            .into_iter()
+            .filter(|kind| self.count(kind) == 0)
+            .collect()
+    }
+
+    pub fn report(&self) -> String {
+        report(&EXPECTED, &self.counts) + &listed("missing", &self.missing())
+    }
+}
+
+fn kinds(before: &Module, event: &Event, answer: &Answer) -> Vec<String> {
+    match (event, answer, Ipi::of(event)) {
+        (Event::Notice { vcpu, page }, Answer::Notice(Ok(_)), _) => {
+            let record = before.record(*vcpu);
+            notice_kinds(record, &admitted(page, before.vmpl, &record.allowed))
+        }
+        (_, Answer::Call(Ok(named)), Some(ipi)) => vec![ipi_kind(before, &ipi, *named)],
+        _ => vec![],
+    }
+}
+
+fn notice_kinds(r: &Record, part: &Admitted) -> Vec<String> {
+    let items = part.items();
+    let any_new = |met: &dyn Fn(Item) -> bool| items.iter().any(|&i| !r.has_pending(i) && met(i));
+    let as_edge = r.pending.without(&r.pending_level);
+    let in_service = |item| matches!(item, Item::Vector(v) if r.service.has(v));
+    let kinds = [
+        ("NMI, was pending", part.nmi && r.nmi),
+        (
+            "level-sensitive, was pending as edge",
+            part.level.is_some_and(|v| as_edge.has(v)),
+        ),
+        (
+            "edge, was pending as level-sensitive",
+            part.edge.members().iter().any(|&v| r.pending_level.has(v)),
+        ),
+        ("in service and not pending", any_new(&in_service)),
+        (
+            "in flight and not pending",
+            any_new(&|item| r.flight == Some(item)),
+        ),
+    ];
+    let held = kinds.iter().filter(|(_, holds)| *holds);
+    held.map(|(kind, _)| format!("notice, {kind}")).collect()
+}
+
+fn ipi_kind(before: &Module, ipi: &Ipi, named: u64) -> String {
+    let what = match (ipi.is_self_ipi(), ipi.item) {
+        (true, _) if named == 0 => return "self-IPI, not named".to_string(),
+        (true, _) => return "self-IPI, named".to_string(),
+        (false, Item::Nmi) => "NMI IPI",
+        (false, Item::Vector(_)) => "vector IPI",
+    };
+    let whom = match (reached(before, ipi), named) {
+        (0, _) => "nobody reached",
+        (_, 0) => "none reached is named",
+        (reached, _) if named == reached => "all reached are named",
+        _ => "some reached are not named",
+    };
+    format!("{what}, {whom}")
+}
+
+/// The active targets, as bits (7.16).
+fn reached(m: &Module, ipi: &Ipi) -> u64 {
+    (0..m.n)
+        .filter(|&id| ipi.targets(id) && m.record(id).phase == Phase::Active)
+        .map(|id| 2u64.pow(id))
+        .sum()
+}

@@ -2,32 +2,21 @@
 use mathlib.Core.Path.{_≡_, refl, sym, ap, ap₂, _∙_}
 use mathlib.Core.Bool.{Bool, true, false, cond, not, _&&_, _||_, and-true, and-false, or-false, or-comm}
 use mathlib.Core.List.{List}
-use Prim.Native.Nat.{ℕ, _+_, _/_, _%_, _^_, _-_, _<_}
+use Prim.Native.Nat.{ℕ, _+_, _/_, _%_, _^_, _<_}
 use native.Mathlib.Omega.{arith}
-use lib.Bits.{bitAnd, bitOr, or-zero-r, and-zero-l, and-comm}
+use lib.Bits.{bitOr, or-zero-r}
 use lib.Dec.{eqb}
 use lib.ListN.{getD, set}
 use lib.Seq.{set-getD}
 use borrow.Author.Tests.{eq-eqb, ne-eqb}
-use Rattle.vector_set.specs.Bits.{one, bitAt}
+use Rattle.vector_set.specs.Bits.{one}
 use Rattle.vector_set.specs.Sets.{has, collect, insert, union, difference, intersection, count}
-use Rattle.vector_set.proofs.BitLaws.{clash, bit-not}
+use Rattle.vector_set.proofs.BitLaws.{clash}
 use Rattle.vector_set.proofs.Laws.{Words, has-collect, has-difference, has-intersection, collect-ext, collect-is}
 use Rattle.vector_set.proofs.Counts.{count-sum, count-single}
 use Rattle.vector_set.proofs.WordLaws.{one-shl, insert-word}
-use Rattle.descriptor.proofs.Masks.{mask-test}
 use Rattle.ipi.specs.Posts.{countsOf}
-
--- ---- one bit against a word
-single-meets : (j x : ℕ) → not (eqb (bitAnd (2 ^ j) x) 0) ≡ bitAt x j
-single-meets j x = ap (λ (y : ℕ). not (eqb y 0)) (and-comm (2 ^ j) x) ∙ mask-test j x
-
-single-adds : (j x : ℕ) → j < 32 → x < 2 ^ 32 → not (eqb (bitAnd (2 ^ j) (2 ^ 32 - 1 - x)) 0) ≡ not (bitAt x j)
-single-adds j x l h = single-meets j (2 ^ 32 - 1 - x) ∙ bit-not 32 x j h l
-
--- no bit meets none
-none-meets : (x : ℕ) → not (eqb (bitAnd 0 x) 0) ≡ false
-none-meets x = ap (λ (y : ℕ). not (eqb y 0)) (and-zero-l x)
+use Rattle.ipi.proofs.Singles.{single-meets, single-adds, none-meets, none-adds}
 
 -- ---- Bool answers: p a further vector, q the one vector, r pending before
 new-apart : (p q r : Bool) → (p && q) ≡ false → one ((p || q) && not r) ≡ one (p && not (r || q)) + one (q && not r)
@@ -72,7 +61,7 @@ module _ (s : List ℕ) (ws : Words s) (x : ℕ) (small : x < 256) where
       (single-adds (x % 32) (getD s (x / 32) 0) (omega arith) (ws .small (x / 32) (omega arith))) (single-meets (x % 32) (getD s (x / 32) 0))
   counts-are false n b =
       ap₂ (λ (p q : Bool). record { new = one (n && not b) + one p; merged = one (n && b) + one q })
-      (none-meets (2 ^ 32 - 1 - getD s (x / 32) 0)) (none-meets (getD s (x / 32) 0))
+      (none-adds (getD s (x / 32) 0)) (none-meets (getD s (x / 32) 0))
 
   module _ (t : Bool) (g : ℕ → Bool) (h : (y : ℕ) → y < 256 → g y ≡ (t && eqb y x)) where
     -- it is counted where f holds of whether it was pending

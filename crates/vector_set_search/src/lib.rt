@@ -30,7 +30,10 @@ fn count_pair(low: u32, high: u32) -> u32
 pub fn count_of(s: [u32; 8]) -> u32
     ensures { λ r. ⌜ r ≡ count s ⌝ }
 {
-    count_pair(s[0], s[1]) + count_pair(s[2], s[3]) + count_pair(s[4], s[5]) + count_pair(s[6], s[7])
+    count_pair(s[0], s[1])
+        + count_pair(s[2], s[3])
+        + count_pair(s[4], s[5])
+        + count_pair(s[6], s[7])
 }
 
 pub fn is_empty(s: [u32; 8]) -> bool

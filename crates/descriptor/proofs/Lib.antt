@@ -1,3 +1,3 @@
 pub mod Admits
-pub mod Masks
+pub mod ByteWords
 pub mod Asked

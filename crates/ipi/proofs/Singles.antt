@@ -1,19 +1,15 @@
 -- A posting has one bit at most: whether a word has it, by its mask. Assumes nothing.
-use mathlib.Core.Path.{_≡_, refl, sym, ap, _∙_}
+use mathlib.Core.Path.{_≡_, refl, ap, _∙_}
 use mathlib.Core.Bool.{Bool, true, false, not}
-use Prim.Native.Nat.{ℕ, _+_, _-_, _*_, _/_, _%_, _^_, _<_}
+use Prim.Native.Nat.{ℕ, _-_, _/_, _%_, _^_, _<_}
 use native.Mathlib.Omega.{arith}
-use native.Mathlib.Nat.{pow-succ', add-comm, zero-mul}
-use native.Mathlib.Numerals.{add-one}
-use lib.Bits.{bitAnd, and-comm, and-high, and-zero-l}
+use lib.Bits.{bitAnd, and-comm, and-zero-l}
 use lib.Dec.{eqb}
 use lib.ListN.{getD}
-use lib.Pow.{pow-pos}
 use mir.Val.{boolByte}
-use borrow.Author.Tests.{ne-eqb}
 use Rattle.vector_set.specs.Bits.{one, bitAt}
 use Rattle.vector_set.specs.Sets.{has}
-use Rattle.vector_set.proofs.BitLaws.{bit-number, bit-not}
+use Rattle.vector_set.proofs.BitLaws.{bit-not, mask-test}
 use Rattle.vector_set.proofs.Laws.{Words}
 use Rattle.model.specs.declared.Item.{Item}
 use Rattle.model.specs.declared.Item.the-variants.{Nmi, Vector}
@@ -28,19 +24,9 @@ byte-one true = refl
 byte-one false = refl
 
 -- ---- the bit j
-meets : (j x : ℕ) → bitAnd (2 ^ j) x ≡ one (bitAt x j) * 2 ^ j
-meets j x =
-    let p : 2 ^ (1 + j) ≡ 2 * 2 ^ j = rw (add-comm 1 j, add-one j) (pow-succ' 2 j) in
-    let e : 2 ^ (1 + j) - 2 ^ j ≡ 2 ^ j = omega arith in
-    and-comm (2 ^ j) x ∙ ap (bitAnd x) (sym e) ∙ and-high x 1 j ∙ ap (λ (y : ℕ). y * 2 ^ j) (sym (bit-number x j))
-
-is-set : (j : ℕ) (b : Bool) → not (eqb (one b * 2 ^ j) 0) ≡ b
-is-set j true = rw (ne-eqb (1 * 2 ^ j) 0 (λ (q : 1 * 2 ^ j ≡ 0). let z : ⊥ = omega (arith, pow-pos j) in z))
-is-set j false = rw (zero-mul (2 ^ j))
-
 -- a word has the bit
 pub single-meets : (j x : ℕ) → not (eqb (bitAnd (2 ^ j) x) 0) ≡ bitAt x j
-single-meets j x = rw (meets j x) (is-set j (bitAt x j))
+single-meets j x = ap (λ (y : ℕ). not (eqb y 0)) (and-comm (2 ^ j) x) ∙ mask-test j x
 
 -- a word has it not
 pub single-adds : (j x : ℕ) → j < 32 → x < 2 ^ 32 → not (eqb (bitAnd (2 ^ j) (2 ^ 32 - 1 - x)) 0) ≡ not (bitAt x j)

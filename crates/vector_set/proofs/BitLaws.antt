@@ -5,10 +5,11 @@ use mathlib.Core.Path.{_≡_, refl, sym, ap, _∙_, subst}
 use mathlib.Core.Bool.{Bool, true, false, not, _&&_, _||_}
 use Prim.Native.Nat.{ℕ, zero, suc, _+_, _-_, _*_, _/_, _%_, _^_, _<_, _≤_, min, max}
 use native.Mathlib.Omega.{arith}
-use native.Mathlib.Nat.{div-div-eq-div-mul, pow-succ', not-suc-le-zero, le-of-suc-le-suc, div-one, div-eq-of-lt}
+use native.Mathlib.Nat.{div-div-eq-div-mul, pow-succ', not-suc-le-zero, le-of-suc-le-suc, div-one, div-eq-of-lt, zero-mul, add-comm}
+use native.Mathlib.Numerals.{add-one}
 use lib.Dec.{eqb, eqb·suc-suc}
-use lib.Bits.{bitAnd, bitOr, and-shr, or-shr, and-step, or-step}
-use lib.Pow.{pow-mono, shr-shr, high, low, field, mod-mod-pow}
+use lib.Bits.{bitAnd, bitOr, and-shr, or-shr, and-step, or-step, and-high}
+use lib.Pow.{pow-pos, pow-mono, shr-shr, high, low, field, mod-mod-pow}
 use borrow.Author.Tests.{eqb-true, eqb-false, ne-eqb}
 use Rattle.vector_set.specs.Bits.{one, bitAt, bits}
 
@@ -199,3 +200,32 @@ bit-low n hi lo b h l = sym (bit-mod n (hi * 2 ^ n + lo) b l) ∙ ap (λ (y : �
 
 pub bit-high : (n hi lo b : ℕ) → lo < 2 ^ n → bitAt (hi * 2 ^ n + lo) (n + b) ≡ bitAt hi b
 bit-high n hi lo b h = sym (bit-shr (hi * 2 ^ n + lo) n b) ∙ ap (λ (y : ℕ). bitAt y b) (high hi n h)
+
+-- ---- one bit of a number, by a mask
+mask-bit : (k x : ℕ) → bitAnd x (2 ^ k) ≡ one (bitAt x k) * 2 ^ k
+mask-bit k x =
+    let p : 2 ^ (1 + k) ≡ 2 * 2 ^ k = rw (add-comm 1 k, add-one k) (pow-succ' 2 k) in
+    let e : 2 ^ (1 + k) - 2 ^ k ≡ 2 ^ k = omega arith in
+    ap (bitAnd x) (sym e) ∙ and-high x 1 k ∙ ap (λ (y : ℕ). y * 2 ^ k) (sym (bit-number x k))
+
+pub mask-clear : (k x : ℕ) → bitAnd x (2 ^ k) ≡ 0 → bitAt x k ≡ false
+mask-clear k x e = go (bitAt x k) (sym (mask-bit k x) ∙ e)
+  where
+    go : (b : Bool) → one b * 2 ^ k ≡ 0 → b ≡ false
+    go false h = refl
+    go true h = let z : ⊥ = omega (arith, pow-pos k) in absurd z
+
+pub mask-set : (k x : ℕ) → (bitAnd x (2 ^ k) ≡ 0 → ⊥) → bitAt x k ≡ true
+mask-set k x n = go (bitAt x k) (mask-bit k x)
+  where
+    go : (b : Bool) → bitAnd x (2 ^ k) ≡ one b * 2 ^ k → b ≡ true
+    go true h = refl
+    go false h = absurd (n (h ∙ zero-mul (2 ^ k)))
+
+-- the bit by the test that code makes
+pub mask-test : (k x : ℕ) → not (eqb (bitAnd x (2 ^ k)) 0) ≡ bitAt x k
+mask-test k x = go (eqb (bitAnd x (2 ^ k)) 0) refl
+  where
+    go : (b : Bool) → eqb (bitAnd x (2 ^ k)) 0 ≡ b → not b ≡ bitAt x k
+    go true e = sym (mask-clear k x (eqb-true (bitAnd x (2 ^ k)) 0 e))
+    go false e = sym (mask-set k x (eqb-false (bitAnd x (2 ^ k)) 0 e))

@@ -5,7 +5,7 @@ use lib.Bits.{bitAnd}
 use lib.ListN.{getD}
 use borrow.Author.Tests.{eq-eqb}
 use Rattle.model.specs.Doorbell.{bitOf, admitsNmi}
-use Rattle.descriptor.proofs.Masks.{mask-clear, mask-set}
+use Rattle.vector_set.proofs.BitLaws.{mask-clear, mask-set}
 use borrow.Author.Needs.{needs}
 use Rattle.descriptor.proofs.nmi_of.Statement.{statement}
 use Rattle.descriptor.proofs.nmi_of.Tie as tie

@@ -6,7 +6,7 @@ use lib.ListN.{getD}
 use borrow.Author.Needs.{needs}
 use Rattle.model.specs.Doorbell.{bitOf}
 use Rattle.descriptor.specs.Requests.{levelOf}
-use Rattle.descriptor.proofs.Masks.{mask-clear, mask-set, mask-test}
+use Rattle.vector_set.proofs.BitLaws.{mask-clear, mask-set, mask-test}
 use Rattle.descriptor.proofs.Asked.{level-bits, request-is}
 use Rattle.descriptor.proofs.read_request.Statement.{statement}
 use Rattle.descriptor.proofs.read_request.Tie as tie

@@ -1,6 +1,6 @@
 -- `descriptor::word_of` meets its contract: a word is four bytes. Assumes nothing.
 use native.Mathlib.Omega.{arith}
-use Rattle.descriptor.proofs.Masks.{word-bytes}
+use Rattle.descriptor.proofs.ByteWords.{word-bytes}
 use borrow.Author.Needs.{needs}
 use Rattle.descriptor.proofs.word_of.Statement.{statement}
 use Rattle.descriptor.proofs.word_of.Tie as tie

@@ -6,7 +6,7 @@ use native.Mathlib.Omega.{arith}
 use lib.Bits.{bitAnd}
 use lib.ListN.{getD}
 use Rattle.model.specs.Doorbell.{announces, descriptor}
-use Rattle.descriptor.proofs.Masks.{mask-clear, mask-set}
+use Rattle.vector_set.proofs.BitLaws.{mask-clear, mask-set}
 use Rattle.descriptor.specs.Requests.{requestedIn}
 use Rattle.doorbell.proofs.Notice.{announces-is, mark-is, is-descriptor, unannounced, announced, page-left, page-cleared}
 use borrow.Author.Needs.{needs}

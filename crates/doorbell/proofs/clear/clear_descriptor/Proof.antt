@@ -6,7 +6,7 @@ use Prim.Native.Nat.{ℕ}
 use lib.Dec.{leb, eqb}
 use lib.ListN.{getD}
 use Rattle.model.specs.Doorbell.{bitOf, clearsBit}
-use Rattle.descriptor.proofs.Masks.{mask-clear, mask-set}
+use Rattle.vector_set.proofs.BitLaws.{mask-clear, mask-set}
 use Rattle.doorbell.specs.Clear.{clearing}
 use Rattle.doorbell.proofs.ClearLaws.{clearing-twice, clearing-ext}
 use borrow.Author.Needs.{needs}

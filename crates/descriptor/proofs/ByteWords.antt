@@ -1,19 +1,14 @@
--- Laws of bytes by their bits: a word is four bytes, and a mask reads one bit.
+-- Laws of bytes by their bits: a word is four bytes.
 -- Assumes nothing.
-use mathlib.Core.Path.{_≡_, refl, sym, ap, _∙_}
-use mathlib.Core.Bool.{Bool, true, false, not}
+use mathlib.Core.Path.{_≡_, sym}
+use mathlib.Core.Bool.{Bool}
 use mathlib.Core.List.{List}
-use Prim.Native.Nat.{ℕ, zero, suc, _+_, _*_, _-_, _^_, _<_}
+use Prim.Native.Nat.{ℕ, zero, suc, _+_, _*_, _^_, _<_}
 use native.Mathlib.Omega.{arith}
-use native.Mathlib.Nat.{pow-succ', zero-mul, add-comm, mul-assoc}
-use native.Mathlib.Numerals.{add-one}
-use lib.Pow.{pow-pos}
-use lib.Dec.{eqb}
+use native.Mathlib.Nat.{pow-succ', mul-assoc}
 use lib.ListN.{getD}
-use lib.Bits.{bitAnd, and-high}
-use borrow.Author.Tests.{eqb-true, eqb-false}
-use Rattle.vector_set.specs.Bits.{one, bitAt, bits}
-use Rattle.vector_set.proofs.BitLaws.{bits-unique, bit-number}
+use Rattle.vector_set.specs.Bits.{bits}
+use Rattle.vector_set.proofs.BitLaws.{bits-unique}
 use Rattle.model.specs.Doorbell.{bitOf}
 use Rattle.model.proofs.Bytes.{bitOf-byte}
 
@@ -47,32 +42,3 @@ word-bytes p j s =
     let c : bits f (8 * (j + 2)) 16 ≡ bits f (8 * (j + 2)) 8 + 256 * bits f (8 * (j + 2) + 8) 8 = bits-add f (8 * (j + 2)) 8 8 in
     rw (byte-bits p j (s j), byte-bits p (j + 1) (s (j + 1)), byte-bits p (j + 2) (s (j + 2)), byte-bits p (j + 3) (s (j + 3)))
     (omega (arith, rw e1 at a, rw e2 at b, rw e3 at c))
-
--- ---- one bit of a number, by a mask
-mask-bit : (k x : ℕ) → bitAnd x (2 ^ k) ≡ one (bitAt x k) * 2 ^ k
-mask-bit k x =
-    let p : 2 ^ (1 + k) ≡ 2 * 2 ^ k = rw (add-comm 1 k, add-one k) (pow-succ' 2 k) in
-    let e : 2 ^ (1 + k) - 2 ^ k ≡ 2 ^ k = omega arith in
-    ap (bitAnd x) (sym e) ∙ and-high x 1 k ∙ ap (λ (y : ℕ). y * 2 ^ k) (sym (bit-number x k))
-
-pub mask-clear : (k x : ℕ) → bitAnd x (2 ^ k) ≡ 0 → bitAt x k ≡ false
-mask-clear k x e = go (bitAt x k) (sym (mask-bit k x) ∙ e)
-  where
-    go : (b : Bool) → one b * 2 ^ k ≡ 0 → b ≡ false
-    go false h = refl
-    go true h = let z : ⊥ = omega (arith, pow-pos k) in absurd z
-
-pub mask-set : (k x : ℕ) → (bitAnd x (2 ^ k) ≡ 0 → ⊥) → bitAt x k ≡ true
-mask-set k x n = go (bitAt x k) (mask-bit k x)
-  where
-    go : (b : Bool) → bitAnd x (2 ^ k) ≡ one b * 2 ^ k → b ≡ true
-    go true h = refl
-    go false h = absurd (n (h ∙ zero-mul (2 ^ k)))
-
--- the bit by the test that code makes
-pub mask-test : (k x : ℕ) → not (eqb (bitAnd x (2 ^ k)) 0) ≡ bitAt x k
-mask-test k x = go (eqb (bitAnd x (2 ^ k)) 0) refl
-  where
-    go : (b : Bool) → eqb (bitAnd x (2 ^ k)) 0 ≡ b → not b ≡ bitAt x k
-    go true e = sym (mask-clear k x (eqb-true (bitAnd x (2 ^ k)) 0 e))
-    go false e = sym (mask-set k x (eqb-false (bitAnd x (2 ^ k)) 0 e))

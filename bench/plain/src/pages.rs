@@ -46,49 +46,61 @@ pub fn notice(m: &mut Module, vcpu: u32, page: &mut [u8]) -> Admission {
     let (single, flags) = (d[0], d[1]);
     d[0] = 0;
     d[1] = flags & KEPT;
-    let (mut new, mut merged) = (0, 0);
+    let mut counts = Counts::default();
     if flags & NMI != 0 && v.allowed[0] & 1 << 2 != 0 {
-        merged += u32::from(v.nmi);
-        new += u32::from(!v.nmi);
+        counts.add(v.nmi);
         v.nmi = true;
     }
     let (w, bit) = place(single);
     let named = single >= 31 && v.allowed[w] & bit != 0;
     let level = named && flags & LEVEL != 0;
-    let before = v.irr;
     if named && (level || flags & MANY == 0) {
-        let was = u32::from(v.irr[w] & bit != 0);
-        merged += was;
-        new += 1 - was;
+        counts.add(v.irr[w] & bit != 0);
         v.irr[w] |= bit;
     }
     if level {
         v.irr_level[w] |= bit;
     }
     if flags & MANY != 0 {
-        let edge = admit_many(v, d, if level { Some((w, bit)) } else { None });
-        for (was, more) in before.iter().zip(edge) {
-            merged += (was & more).count_ones();
-            new += (!was & more).count_ones();
+        let level = if level { Some((w, bit)) } else { None };
+        admit_many(v, d, level, &mut counts);
+    }
+    Admission::Items(counts.new, counts.merged)
+}
+
+/// 4.29, 4.37
+#[derive(Default)]
+struct Counts {
+    new: u32,
+    merged: u32,
+}
+
+impl Counts {
+    #[inline]
+    fn add(&mut self, was_pending: bool) {
+        if was_pending {
+            self.merged += 1;
+        } else {
+            self.new += 1;
         }
     }
-    Admission::Items(new, merged)
 }
 
 /// 4.18, 4.32; the level-sensitive vector is not counted again (4.24).
 #[inline]
-fn admit_many(v: &mut Vcpu, d: &mut [u8; 64], level: Option<(usize, u32)>) -> Set {
+fn admit_many(v: &mut Vcpu, d: &mut [u8; 64], level: Option<(usize, u32)>, counts: &mut Counts) {
     let mut edge: Set = std::array::from_fn(|k| word(d, k) & v.allowed[k]);
     edge[0] &= MARK_31;
     if let Some((w, bit)) = level {
         edge[w] &= !bit;
     }
-    for (pending, more) in v.irr.iter_mut().zip(edge) {
-        *pending |= more;
-    }
     d[3] &= 0x7F;
     d[4..32].fill(0);
-    edge
+    for (pending, more) in v.irr.iter_mut().zip(edge) {
+        counts.merged += (*pending & more).count_ones();
+        counts.new += (!*pending & more).count_ones();
+        *pending |= more;
+    }
 }
 
 /// Section 10

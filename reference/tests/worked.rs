@@ -362,10 +362,10 @@ fn a_worked_list_of_two() {
     let mut m: Module = fresh(2, 1);
     let nmi = Ok(Shown::Presented(Item::Nmi));
     assert_eq!(call(&mut m, 0, 4, 0x102, 0), Ok(0));
-    assert_eq!(
-        notice(&mut m, 0, &mut page(&[(3, 1), (65, 0x01)])),
-        counted(1, 0)
-    );
+    for answer in [counted(1, 0), counted(0, 1)] {
+        let mut p = page(&[(3, 1), (65, 0x01)]);
+        assert_eq!(notice(&mut m, 0, &mut p), answer);
+    }
     assert_eq!(write(&mut m, 0, ICR, 0xC4400), Ok(2));
     assert_eq!(entry(&mut m, 1, true, false, false), nmi);
     assert_eq!(non_delivery(&mut m, 1), Ok(0));
@@ -405,6 +405,12 @@ fn a_superfluous_notice() {
     let (answer, after) = told(&pending(&[0x41], false), &[(3, 1), (64, 0x41)]);
     assert_eq!(answer, counted(0, 1));
     assert_eq!(after.pending, set(&[0x41]));
+    let mut m = fresh(2, 1);
+    m.records[0] = pending(&[0x41], false);
+    m.records[0].allowed = set(&[0x41]);
+    let mut p = page(&[(3, 1), (64, 0x41)]);
+    assert_eq!(notice(&mut m, 0, &mut p), counted(0, 1));
+    assert_eq!(p, page(&[]));
     let (answer, _) = told(&pending(&[0x41], false), &[(64, 0x41)]);
     assert_eq!(answer, counted(0, 0));
 }

@@ -88,8 +88,8 @@ pub record Quiet : Type 0 where
       → postAct j x s w i a (refused c) g ≡ g
   pub reads : (j : ℕ) (x : Item) (s : Part) (w : Book) (i op c y : ℕ) (a : Result) (g : Ledger) → eqb op 3 ≡ false
       → postAct j x s w i (call op c y) a g ≡ g
-  -- nor are the numbers of an answer read: an IPI is sent to every target active in the book, named in its answer or not, and a notice admits what was
-  -- pending too (12.19, 12.21)
+  -- nor are the numbers of an answer read: an IPI is sent to every target active in the book, named in its answer or not, and a notice counts
+  -- whether its items are new or not (12.21, 13.27)
   pub numbers : (j : ℕ) (x : Item) (s : Part) (w : Book) (i : ℕ) (e : Act Bytes) (a b : ℕ) (g : Ledger)
       → postAct j x s w i e (done a) g ≡ postAct j x s w i e (done b) g
   pub counts : (j : ℕ) (x : Item) (s : Part) (w : Book) (i : ℕ) (e : Act Bytes) (a b c d : ℕ) (g : Ledger)

@@ -93,6 +93,7 @@ abbrev pair : List Event
 pair =
     at 0 (call 4 0x102 0)
     ∷ at 0 (notice (set announcing 65 0x01))
+    ∷ at 0 (notice (set announcing 65 0x01))
     ∷ icr 0xC4400
     ∷ enters1
     ∷ at 1 nonDelivery
@@ -116,9 +117,9 @@ tells j x ns =
 unfoldable pub paired : List Bool
 paired =
     sameResults (results (start 2 1) pair)
-    (done 0 ∷ counted 1 0 ∷ done 2 ∷ shownNmi ∷ done 0 ∷ shownNmi ∷ done 3 ∷ done 0 ∷ done 0 ∷ done 65537 ∷ done 0 ∷ done 65538 ∷ [])
+    (done 0 ∷ counted 1 0 ∷ counted 0 1 ∷ done 2 ∷ shownNmi ∷ done 0 ∷ shownNmi ∷ done 3 ∷ done 0 ∷ done 0 ∷ done 65537 ∷ done 0 ∷ done 65538 ∷ [])
     ∷ samePages (pages (start 2 1) pair) (set (set zeros 65 0x41) 72 0x02 ∷ set (set zeros 65 0x40) 72 0x02 ∷ [])
-    ∷ tells 0 item.Nmi (0 ∷ 1 ∷ 0 ∷ 0 ∷ [])
+    ∷ tells 0 item.Nmi (0 ∷ 2 ∷ 0 ∷ 0 ∷ [])
     ∷ tells 1 item.Nmi (2 ∷ 0 ∷ 1 ∷ 1 ∷ [])
     ∷ tells 0 (item.Vector 0x41) (0 ∷ 0 ∷ 1 ∷ 0 ∷ [])
     ∷ tells 1 (item.Vector 0x41) (0 ∷ 0 ∷ 2 ∷ 0 ∷ [])

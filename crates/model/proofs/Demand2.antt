@@ -22,7 +22,7 @@ use Rattle.model.proofs.ReadBack.{read-back}
 use Rattle.model.proofs.Kept.{keeps-level, calls-keep-level, calls-keep-pending, keeps-inactive, keeps-beyond}
 use Rattle.model.proofs.IcrBits.{reserved, set-apart, same-delivery}
 use Rattle.model.proofs.IcrWrites.{same-write, icr-reads, icr-touches}
-use Rattle.model.proofs.NoticeCounts.{notice-new, notice-sum, notice-pends}
+use Rattle.model.proofs.NoticeCounts.{notice-new, notice-sum, notice-pends, notice-levels, notice-touches}
 use Rattle.model.proofs.IpiNames.{icr-names, self-names, icr-reaches, self-reaches, self-touches}
 
 -- ---- what acceptance tells
@@ -79,6 +79,8 @@ demand2 =
       selfNames = self-names;
       icrReaches = icr-reaches;
       noticePends = notice-pends;
+      noticeLevels = notice-levels;
+      noticeTouches = notice-touches;
       selfReaches = self-reaches;
       selfTouches = self-touches;
       keepsBeyond = keeps-beyond;

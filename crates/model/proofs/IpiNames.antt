@@ -7,7 +7,7 @@ use native.Mathlib.Omega.{arith}
 use lib.Dec.{leb, ltb, eqb}
 use lib.ListN.{length}
 use lib.Seq.{getD-set-same}
-use borrow.Author.Tests.{leb-true, ltb-true, ltb-false, le-ltb, eq-eqb, ne-eqb}
+use borrow.Author.Tests.{leb-true, ltb-true, ltb-false, lt-ltb, le-ltb, eq-eqb, ne-eqb}
 use Rattle.vector_set.specs.Bits.{bitAt, bits}
 use Rattle.vector_set.specs.Sets.{empty, isVector}
 use Rattle.vector_set.proofs.BitLaws.{bits-bit, bits-lt, bit-above}
@@ -119,10 +119,10 @@ icr-names m i x r k =
     pick false true = refl
     pick false false = refl
 
-pub icr-reaches : (m : Module) (i x r k : ℕ) → step m (writesIcr i x) .result ≡ done r → reached (icrTarget x) i (size m) k (vcpuAt m k .phase) ≡ true
-    → pending (icrItem x) (vcpuAt (next m (writesIcr i x)) k) ≡ true
-icr-reaches m i x r k e h =
-    by-answer m i x r (λ b u. pending (icrItem x) (vcpuAt u k) ≡ true) (λ l. pending-after m i x k l ∙ rw h) e
+pub icr-reaches : (m : Module) (i x r k : ℕ) → step m (writesIcr i x) .result ≡ done r → k < size m → hits (icrTarget x) i k ≡ true
+    → isActive (vcpuAt m k .phase) ≡ true → pending (icrItem x) (vcpuAt (next m (writesIcr i x)) k) ≡ true
+icr-reaches m i x r k e below hit active =
+    by-answer m i x r (λ b u. pending (icrItem x) (vcpuAt u k) ≡ true) (λ l. pending-after m i x k l ∙ rw (lt-ltb k (size m) below, hit, active)) e
 
 -- ---- a self-IPI
 stored-at : (m : Module) (i : ℕ) (w : Vcpu) → i < length (m .vcpus) → vcpuAt (withVcpu m i w) i ≡ w

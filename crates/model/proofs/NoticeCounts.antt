@@ -18,13 +18,13 @@ use Rattle.model.specs.declared.Item.{Item}
 use Rattle.model.specs.declared.Item.the-variants.{Nmi, Vector}
 use Rattle.model.specs.declared.Vcpu.{Vcpu}
 use Rattle.model.specs.declared.Module.{Module}
-use Rattle.model.specs.State.{absent, vcpuAt, withVcpu, withRegistrations}
+use Rattle.model.specs.State.{absent, vcpuAt, withVcpu, withRegistrations, withIrrLevel}
 use Rattle.model.specs.Codes.{Result, counted, refused}
-use Rattle.model.specs.Items.{InRange, itemCount, pending, markAll}
+use Rattle.model.specs.Items.{InRange, itemCount, pending, markAll, unmarkAll}
 use Rattle.model.specs.Doorbell.{bitOf, levelBit, manyBit, vectorField, isVector, Part, noPart, isLevel, inPart, isSome, announces, descriptor}
 use Rattle.model.specs.Doorbell.{admitsNmi, admitsLevel, admitsEdge, admits, admitted, items}
 use Rattle.model.specs.Events.{notice, at, Bytes, noticed, itemsNew, itemsMerged, effect, effectOf, concluded, Out, step, next}
-use Rattle.model.proofs.Stored.{by-verdict, known-of}
+use Rattle.model.proofs.Stored.{on-put, vcpuAt-count, by-verdict, known-of}
 use Rattle.model.proofs.ItemLaws.{pending-markAll}
 
 -- ---- items counted
@@ -95,6 +95,30 @@ notice-pends m i p a b x r =
     by-verdict m (at i (notice p)) (λ o. o .result ≡ counted a b → pending x (vcpuAt (o .after) i) ≡ (pending x v || inPart x s))
     (λ c h e. clash (cc))
     (λ h e. ap (pending x) (stored-at m i (m .registrations) (noticed s v) (known-of m i (notice p) h .there)) ∙ pending-noticed x r s v)
+
+pub notice-levels : (m : Module) (i : ℕ) (p : Bytes) (a b x : ℕ) → x < 256 → step m (at i (notice p)) .result ≡ counted a b
+    → has (vcpuAt (next m (at i (notice p))) i .«irr_level») x
+    ≡ (has (vcpuAt m i .«irr_level») x || isLevel (admitted (m .vmpl) (vcpuAt m i .allowed) p .level) x)
+unfolding concluded effect noticed
+notice-levels m i p a b x r =
+    let v = vcpuAt m i in
+    let s = admitted (m .vmpl) (v .allowed) p in
+    by-verdict m (at i (notice p))
+    (λ o. o .result ≡ counted a b → has (vcpuAt (o .after) i .«irr_level») x ≡ (has (v .«irr_level») x || isLevel (s .level) x))
+    (λ c h e. clash (cc))
+    (λ h e. ap (λ (w : Vcpu). has (w .«irr_level») x) (stored-at m i (m .registrations) (noticed s v) (known-of m i (notice p) h .there))
+    ∙ has-collect (λ y. has (v .«irr_level») y || isLevel (s .level) y) x r)
+
+pub notice-touches : (m : Module) (i : ℕ) (p : Bytes) (a b j : ℕ) → step m (at i (notice p)) .result ≡ counted a b
+    → withIrrLevel empty (unmarkAll (vcpuAt (next m (at i (notice p))) j)) ≡ withIrrLevel empty (unmarkAll (vcpuAt m j))
+unfolding concluded effect noticed markAll unmarkAll
+notice-touches m i p a b j =
+    by-verdict m (at i (notice p))
+    (λ o. o .result ≡ counted a b → withIrrLevel empty (unmarkAll (vcpuAt (o .after) j)) ≡ withIrrLevel empty (unmarkAll (vcpuAt m j)))
+    (λ c h e. clash (cc))
+    (λ h e. rw (vcpuAt-count)
+    (on-put m i (noticed (admitted (m .vmpl) (vcpuAt m i .allowed) p) (vcpuAt m i)) j (known-of m i (notice p) h .there)
+    (λ _ _ u w. withIrrLevel empty (unmarkAll w) ≡ withIrrLevel empty (unmarkAll u)) refl refl))
 
 -- ---- the two numbers together
 together : (a : Part) (v : Vcpu) → itemsNew a v + itemsMerged a v ≡ itemCount (λ x. inPart x a)

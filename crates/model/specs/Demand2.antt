@@ -1,4 +1,4 @@
--- Demand 2: the gate is what kernels expect (13.6 to 13.18, 13.35 to 13.50). That each event's result, module and page are those of
+-- Demand 2: the gate is what kernels expect (13.6 to 13.18, 13.35 to 13.52). That each event's result, module and page are those of
 -- `step` and `start` is said by the functions' contracts; here is what else is claimed of them.
 -- Assumes nothing.
 use mathlib.Core.Path.{_≡_}
@@ -12,17 +12,17 @@ use Rattle.model.specs.declared.Item.the-variants.{Vector}
 use Rattle.model.specs.declared.InFlight.the-variants.{Nothing}
 use Rattle.model.specs.declared.Vcpu.{Vcpu}
 use Rattle.model.specs.declared.Module.{Module}
-use Rattle.model.specs.State.{isActive, size, vcpuAt, start, withVcpu, withIcr, withFlight}
+use Rattle.model.specs.State.{isActive, size, vcpuAt, start, withVcpu, withIrrLevel, withIcr, withFlight}
 use Rattle.model.specs.Codes.{done, counted}
 use Rattle.model.specs.Items.{InRange, itemCount, pending, unmarkAll}
-use Rattle.model.specs.Doorbell.{mapBits, announcingBit, Part, inPart, admitted, items}
+use Rattle.model.specs.Doorbell.{mapBits, announcingBit, Part, isLevel, inPart, admitted, items}
 use Rattle.model.specs.Registers.{within}
-use Rattle.model.specs.Ipi.{icrLegal, icrItem, icrTarget, reached as isReached}
+use Rattle.model.specs.Ipi.{icrLegal, icrItem, icrTarget, hits}
 use Rattle.model.specs.Events.{Act, notice, call, entry, nonDelivery, handBack, at, Bytes, Event, step, next, final}
 use Rattle.model.specs.Causes.{isHandBack}
 use Rattle.model.specs.Reached.{Sound}
 use Rattle.vector_set.specs.Bits.{bitAt}
-use Rattle.vector_set.specs.Sets.{has, full, difference, highest}
+use Rattle.vector_set.specs.Sets.{has, empty, full, difference, highest}
 
 -- ---- the read-back
 -- a page with work announced at the VMPL l (13.10)
@@ -123,11 +123,18 @@ pub record Demand2 : Type 0 where
   pub selfNames : (m : Module) (i x r k : ℕ) → step m (sendsSelf i x) .result ≡ done r
       → bitAt r k ≡ (pending (Vector x) (vcpuAt (next m (sendsSelf i x)) k) && not (pending (Vector x) (vcpuAt m k)))
   -- and every active target has it pending afterwards, named or not (13.46)
-  pub icrReaches : (m : Module) (i x r k : ℕ) → step m (writesIcr i x) .result ≡ done r → isReached (icrTarget x) i (size m) k (vcpuAt m k .phase) ≡ true
-      → pending (icrItem x) (vcpuAt (next m (writesIcr i x)) k) ≡ true
+  pub icrReaches : (m : Module) (i x r k : ℕ) → step m (writesIcr i x) .result ≡ done r → k < size m → hits (icrTarget x) i k ≡ true
+      → isActive (vcpuAt m k .phase) ≡ true → pending (icrItem x) (vcpuAt (next m (writesIcr i x)) k) ≡ true
   -- of every module value: after an accepted notice what was pending at its vCPU and what it admits is pending there, and nothing else (13.47)
   pub noticePends : (m : Module) (i : ℕ) (p : Bytes) (a b : ℕ) (x : Item) → InRange x → step m (at i (notice p)) .result ≡ counted a b
       → pending x (vcpuAt (next m (at i (notice p))) i) ≡ (pending x (vcpuAt m i) || inPart x (admitted (m .vmpl) (vcpuAt m i .allowed) p))
+  -- PL gains its level-sensitive vector and no other, and loses none (13.51)
+  pub noticeLevels : (m : Module) (i : ℕ) (p : Bytes) (a b x : ℕ) → x < 256 → step m (at i (notice p)) .result ≡ counted a b
+      → has (vcpuAt (next m (at i (notice p))) i .«irr_level») x
+      ≡ (has (vcpuAt m i .«irr_level») x || isLevel (admitted (m .vmpl) (vcpuAt m i .allowed) p .level) x)
+  -- and nothing else of any record changes (13.52)
+  pub noticeTouches : (m : Module) (i : ℕ) (p : Bytes) (a b j : ℕ) → step m (at i (notice p)) .result ≡ counted a b
+      → withIrrLevel empty (unmarkAll (vcpuAt (next m (at i (notice p))) j)) ≡ withIrrLevel empty (unmarkAll (vcpuAt m j))
   -- of every module value: after an accepted self-IPI its vector is pending at the caller (13.48)
   pub selfReaches : (m : Module) (i x r : ℕ) → step m (sendsSelf i x) .result ≡ done r → pending (Vector x) (vcpuAt (next m (sendsSelf i x)) i) ≡ true
   -- P and the NMI mark apart, it changes what is in flight at the caller and nothing else (13.49)

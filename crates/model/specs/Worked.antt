@@ -22,7 +22,7 @@ use Rattle.model.specs.declared.Kind.{Kind}
 use Rattle.vector_set.specs.Bits.{one}
 use Rattle.model.specs.Events.{notice, call, entry, nonDelivery, handBack, at, Event, Out, step, next}
 use Rattle.model.specs.Cases.{sameNumbers, gives, counts, isRefused, isNothing, fresh2, having, record0, singleton}
-use Rattle.model.specs.Cases.{announcing, byte64, onPage, resultOn, level61, pending41, every, Starred}
+use Rattle.model.specs.Cases.{zeros, announcing, byte64, onPage, resultOn, level61, pending41, every, Starred}
 
 -- ---- what the cases use
 -- n bytes b from byte i on
@@ -213,7 +213,7 @@ further =
     ∷ refuses 0x44441
     ∷ refuses 0x84400
     ∷ refuses 0x84441
-    -- 14.29, 14.30: whom an IPI reaches
+    -- 14.29, 14.30: whom an IPI names where nothing is pending
     ∷ reachesOf18 0x3FFFE 0xC4400
     ∷ reachesOf18 0x00001 0x44041
     ∷ reachesOf18 0x3FFFF 0x84041
@@ -301,6 +301,7 @@ further =
     -- 14.50: a superfluous notice, and one that announces nothing
     ∷ counts 0 1 (told (withIrr (singleton 0x41) record0) byte64 .result)
     ∷ sameNumbers (irrOf (told (withIrr (singleton 0x41) record0) byte64 .after) 0) (singleton 0x41)
+    ∷ sameNumbers (told (withIrr (singleton 0x41) record0) byte64 .page) zeros
     ∷ counts 0 0 (told (withIrr (singleton 0x41) record0) (set byte64 3 0) .result)
     -- 14.51: a notice of three items, of which none, two, the NMI alone and all are pending
     ∷ counts 3 0 (told record0 many .result)

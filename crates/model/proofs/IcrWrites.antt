@@ -21,7 +21,7 @@ use Rattle.model.specs.State.{isActive, absent, size, vcpuAt, withVcpu, 
 use Rattle.model.specs.Codes.{Verdict, accept, refuse, need, done}
 use Rattle.model.specs.Registers.{isRead, isWrite, isBoth, kindOf, registerValue}
 use Rattle.model.specs.Requests.{bad, writeValue, requestOf, forget, serve, callVerdict}
-use Rattle.model.specs.Ipi.{icrLegal, icrItem, icrTarget, reached, reach, mapFrom, sent}
+use Rattle.model.specs.Ipi.{icrLegal, icrItem, icrTarget, reached, reach, mapFrom, sent, newBits}
 use Rattle.model.specs.Items.{mark, unmarkAll}
 use Rattle.model.specs.Events.{call, at, vcpuVerdict, verdict, Effect, callEffect, effect, effectOf, Out, refusal, concluded, decided, step, next}
 use Rattle.model.specs.Demand2.{EqualBut14And15, writesIcr, withIcrAt, SameWrite}
@@ -31,17 +31,17 @@ use Rattle.model.proofs.IcrBits.{same-delivery}
 
 -- ---- a write
 -- what an event without a page gives, by its verdict
-abbrev pub over : Verdict → Effect → ℕ → Module → Out
+abbrev over : Verdict → Effect → ℕ → Module → Out
 over accept f i m = concluded f i m
 over (refuse c) f i m = refusal c m []
 
 -- what the vCPU i gets that asks for r
-abbrev pub asks : Module → ℕ → Request → Out
+abbrev asks : Module → ℕ → Request → Out
 asks m i r =
     over (need (ltb i (size m)) UnknownVcpu (need (isActive (vcpuAt m i .phase)) NotActive (callVerdict r i (m .registrations) (forget (vcpuAt m i)))))
     (callEffect r i (m .registrations) (vcpuAt m i)) i m
 
-pub by-request : (m : Module) (i op c x : ℕ) → step m (at i (call op c x)) ≡ asks m i (requestOf op c x)
+by-request : (m : Module) (i op c x : ℕ) → step m (at i (call op c x)) ≡ asks m i (requestOf op c x)
 unfolding step verdict vcpuVerdict effect
 by-request m i op c x = pick (verdict m (at i (call op c x)))
   where
@@ -126,7 +126,7 @@ unfolding callVerdict serve callEffect concluded registerValue requestOf kindOf 
 reads-at u i z a c = ap (λ (o : Out). o .result) (by-request u i 2 0x830 z) ∙ rw (a, c)
 
 -- an accepted write sends its value
-pub sends-value : (m : Module) (i x : ℕ) → verdict m (writesIcr i x) ≡ accept → requestOf 3 0x830 x ≡ request.Icr x
+sends-value : (m : Module) (i x : ℕ) → verdict m (writesIcr i x) ≡ accept → requestOf 3 0x830 x ≡ request.Icr x
 unfolding verdict vcpuVerdict callVerdict
 sends-value m i x p = pick (icrLegal x) refl
   where
@@ -143,7 +143,7 @@ abbrev pub writtenAfter : Module → ℕ → ℕ → Module
 writtenAfter m i x =
     sent (icrItem x) (icrTarget x) i (withRegistrations (m .registrations) (withVcpu m i (withIcr x (forget (vcpuAt m i)))))
 
-pub after-write : (m : Module) (i x : ℕ) → requestOf 3 0x830 x ≡ request.Icr x → concluded (effectOf m (writesIcr i x)) i m .after ≡ writtenAfter m i x
+after-write : (m : Module) (i x : ℕ) → requestOf 3 0x830 x ≡ request.Icr x → concluded (effectOf m (writesIcr i x)) i m .after ≡ writtenAfter m i x
 unfolding effect callEffect concluded
 after-write m i x e = rw e
 
@@ -179,19 +179,30 @@ reads-after m i x z k =
     (at-caller (λ (v : Vcpu). isActive (v .phase)) m i x (k .there) (λ v. refl) ∙ k .phase)
     ∙ ap done (at-caller (λ (v : Vcpu). v .icr) m i x (k .there) (λ v. refl))
 
--- what is shown of the module after an accepted write
-by-accepted : (m : Module) (i x r : ℕ) (P : Module → Type 0) → (Known m i isActive → P (writtenAfter m i x))
-    → step m (writesIcr i x) .result ≡ done r → P (next m (writesIcr i x))
-by-accepted m i x r P h =
-    by-verdict m (writesIcr i x) (λ o. o .result ≡ done r → P (o .after)) (λ c p e. clash (cc))
-    (λ p e. subst P (sym (after-write m i x (sends-value m i x p))) (h (known-of m i (call 3 0x830 x) p)))
+-- its answer
+pub number-of : {a b : ℕ} → done a ≡ done b → a ≡ b
+number-of q = cc
+
+answer-of : (m : Module) (i x : ℕ) → requestOf 3 0x830 x ≡ request.Icr x
+    → concluded (effectOf m (writesIcr i x)) i m .result ≡ done (newBits (icrItem x) (icrTarget x) i m)
+unfolding effect callEffect concluded
+answer-of m i x g = rw g
+
+-- what is shown of the answer of an accepted write and of the module after it
+pub by-answer : (m : Module) (i x r : ℕ) (P : ℕ → Module → Type 0) → (Known m i isActive → P (newBits (icrItem x) (icrTarget x) i m) (writtenAfter m i x))
+    → step m (writesIcr i x) .result ≡ done r → P r (next m (writesIcr i x))
+by-answer m i x r P h =
+    by-verdict m (writesIcr i x) (λ o. o .result ≡ done r → P r (o .after)) (λ c p e. clash (cc))
+    (λ p e. let g = sends-value m i x p in
+    subst (P r) (sym (after-write m i x g))
+    (subst (λ (b : ℕ). P b (writtenAfter m i x)) (number-of (sym (answer-of m i x g) ∙ e)) (h (known-of m i (call 3 0x830 x) p))))
 
 pub icr-reads : (m : Module) (i x z r : ℕ) → step m (writesIcr i x) .result ≡ done r
     → step (next m (writesIcr i x)) (at i (call 2 0x830 z)) .result ≡ done x
-icr-reads m i x z r = by-accepted m i x r (λ u. step u (at i (call 2 0x830 z)) .result ≡ done x) (reads-after m i x z)
+icr-reads m i x z r = by-answer m i x r (λ b u. step u (at i (call 2 0x830 z)) .result ≡ done x) (reads-after m i x z)
 
 pub icr-touches : (m : Module) (i x j r : ℕ) → step m (writesIcr i x) .result ≡ done r
     → unmarkAll (vcpuAt (next m (writesIcr i x)) j) ≡ unmarkAll (cond (eqb j i) (withIcr x (forget (vcpuAt m j))) (vcpuAt m j))
 icr-touches m i x j r =
-    by-accepted m i x r (λ u. unmarkAll (vcpuAt u j) ≡ unmarkAll (cond (eqb j i) (withIcr x (forget (vcpuAt m j))) (vcpuAt m j)))
+    by-answer m i x r (λ b u. unmarkAll (vcpuAt u j) ≡ unmarkAll (cond (eqb j i) (withIcr x (forget (vcpuAt m j))) (vcpuAt m j)))
     (λ k. touched m i x j (k .there))

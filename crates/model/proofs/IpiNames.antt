@@ -6,7 +6,6 @@ use Prim.Native.Nat.{ℕ, _+_, _%_, _<_, _≤_}
 use native.Mathlib.Omega.{arith}
 use lib.Dec.{leb, ltb, eqb}
 use lib.ListN.{length}
-use lib.Seq.{getD-set-same}
 use borrow.Author.Tests.{leb-true, ltb-true, ltb-false, lt-ltb, le-ltb, eq-eqb, ne-eqb}
 use Rattle.vector_set.specs.Bits.{bitAt, bits}
 use Rattle.vector_set.specs.Sets.{empty, isVector}
@@ -21,7 +20,7 @@ use Rattle.model.specs.declared.Request.the-variants as request
 use Rattle.model.specs.declared.Target.{Target}
 use Rattle.model.specs.declared.Vcpu.{Vcpu}
 use Rattle.model.specs.declared.Module.{Module}
-use Rattle.model.specs.State.{isActive, absent, size, vcpuAt, withVcpu, withRegistrations, withIrr, withNmi, withIcr}
+use Rattle.model.specs.State.{isActive, size, vcpuAt, withVcpu, withRegistrations, withIrr, withNmi, withIcr}
 use Rattle.model.specs.Codes.{accept, done}
 use Rattle.model.specs.Items.{InRange, sameItem, pending, mark, unmarkAll}
 use Rattle.model.specs.Registers.{isRead, isWrite, isBoth, kindOf}
@@ -29,9 +28,9 @@ use Rattle.model.specs.Requests.{bad, writeValue, requestOf, forget, ser
 use Rattle.model.specs.Ipi.{icrType, icrVector, icrItem, icrTarget, hits, reached, reach, sent, newBits}
 use Rattle.model.specs.Events.{call, at, vcpuVerdict, verdict, callEffect, effect, effectOf, Out, concluded, step, next}
 use Rattle.model.specs.Demand2.{writesIcr, sendsSelf}
-use Rattle.model.proofs.Stored.{on-put, vcpuAt-count, vcpuAt-sent, size-put, size-count, size-le, needed, by-verdict, Known, known-of}
+use Rattle.model.proofs.Stored.{on-put, get-put, vcpuAt-count, vcpuAt-sent, size-put, size-count, size-le, needed, by-verdict, Known, known-of}
 use Rattle.model.proofs.ItemLaws.{pending-mark, rest-mark}
-use Rattle.model.proofs.IcrWrites.{sends-value, writtenAfter, after-write}
+use Rattle.model.proofs.IcrWrites.{number-of, writtenAfter, by-answer}
 
 -- ---- what an IPI makes pending
 sent-in-range : (x : ℕ) → InRange (icrItem x)
@@ -89,30 +88,13 @@ pending-after m i x k l =
     ap (pending y) (vcpuAt-sent y (icrTarget x) i s k) ∙ pending-reach y (sent-in-range x) (icrTarget x) i (size s) k (vcpuAt s k)
     ∙ rw (size-count (m .registrations) (withVcpu m i (withIcr x (forget (vcpuAt m i)))), size-put m i (withIcr x (forget (vcpuAt m i))), e .0, e .1)
 
-number-of : {a b : ℕ} → done a ≡ done b → a ≡ b
-number-of q = cc
-
-answer-of : (m : Module) (i x : ℕ) → requestOf 3 0x830 x ≡ request.Icr x
-    → concluded (effectOf m (writesIcr i x)) i m .result ≡ done (newBits (icrItem x) (icrTarget x) i m)
-unfolding effect callEffect concluded
-answer-of m i x g = rw g
-
--- what is shown of its answer and of the module after it
-by-answer : (m : Module) (i x r : ℕ) (P : ℕ → Module → Type 0) → (i < length (m .vcpus) → P (newBits (icrItem x) (icrTarget x) i m) (writtenAfter m i x))
-    → step m (writesIcr i x) .result ≡ done r → P r (next m (writesIcr i x))
-by-answer m i x r P h =
-    by-verdict m (writesIcr i x) (λ o. o .result ≡ done r → P r (o .after)) (λ c p e. clash (cc))
-    (λ p e. let g = sends-value m i x p in
-    subst (P r) (sym (after-write m i x g))
-    (subst (λ (b : ℕ). P b (writtenAfter m i x)) (number-of (sym (answer-of m i x g) ∙ e)) (h (known-of m i (call 3 0x830 x) p .there))))
-
 pub icr-names : (m : Module) (i x r k : ℕ) → step m (writesIcr i x) .result ≡ done r
     → bitAt r k ≡ (pending (icrItem x) (vcpuAt (next m (writesIcr i x)) k) && not (pending (icrItem x) (vcpuAt m k)))
 icr-names m i x r k =
     by-answer m i x r (λ b u. bitAt b k ≡ (pending (icrItem x) (vcpuAt u k) && not (pending (icrItem x) (vcpuAt m k))))
-    (λ l. named-at (icrItem x) (icrTarget x) i m k
+    (λ s. named-at (icrItem x) (icrTarget x) i m k
     ∙ pick (reached (icrTarget x) i (size m) k (vcpuAt m k .phase)) (pending (icrItem x) (vcpuAt m k))
-    ∙ ap (λ (b : Bool). b && not (pending (icrItem x) (vcpuAt m k))) (sym (pending-after m i x k l)))
+    ∙ ap (λ (b : Bool). b && not (pending (icrItem x) (vcpuAt m k))) (sym (pending-after m i x k (s .there))))
   where
     pick : (a b : Bool) → (a && not b) ≡ ((a || b) && not b)
     pick true b = refl
@@ -122,13 +104,9 @@ icr-names m i x r k =
 pub icr-reaches : (m : Module) (i x r k : ℕ) → step m (writesIcr i x) .result ≡ done r → k < size m → hits (icrTarget x) i k ≡ true
     → isActive (vcpuAt m k .phase) ≡ true → pending (icrItem x) (vcpuAt (next m (writesIcr i x)) k) ≡ true
 icr-reaches m i x r k e below hit active =
-    by-answer m i x r (λ b u. pending (icrItem x) (vcpuAt u k) ≡ true) (λ l. pending-after m i x k l ∙ rw (lt-ltb k (size m) below, hit, active)) e
+    by-answer m i x r (λ b u. pending (icrItem x) (vcpuAt u k) ≡ true) (λ s. pending-after m i x k (s .there) ∙ rw (lt-ltb k (size m) below, hit, active)) e
 
 -- ---- a self-IPI
-stored-at : (m : Module) (i : ℕ) (w : Vcpu) → i < length (m .vcpus) → vcpuAt (withVcpu m i w) i ≡ w
-unfolding vcpuAt withVcpu
-stored-at m i w l = getD-set-same (m .vcpus) i w absent l
-
 self-asked : (x : ℕ) → requestOf 3 0x83F x ≡ cond (isVector x) (request.Local (local.SelfIpi x)) bad
 unfolding requestOf writeValue kindOf isRead isWrite isBoth
 self-asked x = refl
@@ -214,7 +192,7 @@ pub self-reaches : (m : Module) (i x r : ℕ) → step m (sendsSelf i x) .result
 self-reaches m i x r =
     by-self m i x r (λ b u. pending (Vector x) (vcpuAt u i) ≡ true)
     (λ v s. rw (vcpuAt-count)
-    (ap (pending (Vector x)) (stored-at m i (mark (Vector x) (forget (vcpuAt m i))) (s .there))
+    (ap (pending (Vector x)) (get-put m i (mark (Vector x) (forget (vcpuAt m i))) (s .there))
     ∙ pending-mark (Vector x) (vector-small x v) (Vector x) (forget (vcpuAt m i))
     ∙ ap (λ (b : Bool). b || pending (Vector x) (vcpuAt m i)) (same-item (Vector x))))
 

@@ -8,7 +8,6 @@ use Prim.Native.Nat.{ℕ, _+_, _<_, _≤_}
 use native.Mathlib.Omega.{arith}
 use lib.Dec.{leb, eqb}
 use lib.ListN.{length}
-use lib.Seq.{getD-set-same}
 use borrow.Author.Tests.{leb-true, eq-eqb}
 use Rattle.vector_set.specs.Bits.{one}
 use Rattle.vector_set.specs.Sets.{has, collect, empty, count}
@@ -18,13 +17,13 @@ use Rattle.model.specs.declared.Item.{Item}
 use Rattle.model.specs.declared.Item.the-variants.{Nmi, Vector}
 use Rattle.model.specs.declared.Vcpu.{Vcpu}
 use Rattle.model.specs.declared.Module.{Module}
-use Rattle.model.specs.State.{absent, vcpuAt, withVcpu, withRegistrations, withIrrLevel}
+use Rattle.model.specs.State.{vcpuAt, withVcpu, withRegistrations, withIrrLevel}
 use Rattle.model.specs.Codes.{Result, counted, refused}
 use Rattle.model.specs.Items.{InRange, itemCount, pending, markAll, unmarkAll}
 use Rattle.model.specs.Doorbell.{bitOf, levelBit, manyBit, vectorField, isVector, Part, noPart, isLevel, inPart, isSome, announces, descriptor}
 use Rattle.model.specs.Doorbell.{admitsNmi, admitsLevel, admitsEdge, admits, admitted, items}
 use Rattle.model.specs.Events.{notice, at, Bytes, noticed, itemsNew, itemsMerged, effect, effectOf, concluded, Out, step, next}
-use Rattle.model.proofs.Stored.{on-put, vcpuAt-count, by-verdict, known-of}
+use Rattle.model.proofs.Stored.{on-put, get-put, vcpuAt-count, by-verdict, known-of}
 use Rattle.model.proofs.ItemLaws.{pending-markAll}
 
 -- ---- items counted
@@ -70,8 +69,7 @@ second-of e = cc
 
 -- the record that was stored
 stored-at : (m : Module) (i k : ℕ) (w : Vcpu) → i < length (m .vcpus) → vcpuAt (withRegistrations k (withVcpu m i w)) i ≡ w
-unfolding vcpuAt withVcpu withRegistrations
-stored-at m i k w l = getD-set-same (m .vcpus) i w absent l
+stored-at m i k w l = vcpuAt-count k (withVcpu m i w) i ∙ get-put m i w l
 
 pub notice-new : (m : Module) (i : ℕ) (p : Bytes) (a b : ℕ) → step m (at i (notice p)) .result ≡ counted a b
     → a ≡ itemCount (λ x. pending x (vcpuAt (next m (at i (notice p))) i) && not (pending x (vcpuAt m i)))

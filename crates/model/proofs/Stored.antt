@@ -36,6 +36,11 @@ on-put m i v j h P yes′ no′ = pick (eqb j i) refl
     pick true e = rw (eqb-true j i e, getD-set-same (m .vcpus) i v absent h) yes′
     pick false e = rw (getD-set-other (m .vcpus) i j v absent (eqb-false j i e)) no′
 
+-- at i itself
+pub get-put : (m : Module) (i : ℕ) (v : Vcpu) → i < length (m .vcpus) → vcpuAt (withVcpu m i v) i ≡ v
+unfolding withVcpu vcpuAt
+get-put m i v l = getD-set-same (m .vcpus) i v absent l
+
 pub vcpuAt-count : (k : ℕ) (m : Module) (j : ℕ) → vcpuAt (withRegistrations k m) j ≡ vcpuAt m j
 unfolding vcpuAt withRegistrations
 vcpuAt-count k m j = refl

@@ -4,11 +4,11 @@ use mathlib.Core.Path.{_≡_, refl, ap}
 use mathlib.Core.List.{List, [], _∷_}
 use Prim.Native.Nat.{ℕ, zero, suc, _<_}
 use lib.ListN.{length, set, length-set}
-use lib.Seq.{getD-set-same, set-getD}
+use lib.Seq.{set-getD}
 use Rattle.model.specs.declared.Vcpu.{Vcpu}
 use Rattle.model.specs.declared.Module.{Module}
 use Rattle.model.specs.State.{absent, vcpuAt, withVcpu}
-pub use Rattle.model.proofs.Stored.{size-le}
+pub use Rattle.model.proofs.Stored.{get-put, size-le}
 
 abbrev pub withVcpus : Module → List Vcpu → Module
 withVcpus m l = record { n = m .n; vmpl = m .vmpl; registrations = m .registrations; vcpus = l }
@@ -17,10 +17,6 @@ withVcpus m l = record { n = m .n; vmpl = m .vmpl; registrations = m .registrati
 pub put-same : (m : Module) (i : ℕ) → withVcpu m i (vcpuAt m i) ≡ m
 unfolding withVcpu vcpuAt
 put-same m i = ap (withVcpus m) (set-getD (m .vcpus) i absent)
-
-pub get-put : (m : Module) (i : ℕ) (v : Vcpu) → i < length (m .vcpus) → vcpuAt (withVcpu m i v) i ≡ v
-unfolding withVcpu vcpuAt
-get-put m i v l = getD-set-same (m .vcpus) i v absent l
 
 -- a record stored to once more
 set-set : (l : List Vcpu) (i : ℕ) (u v : Vcpu) → set (set l i u) i v ≡ set l i v

@@ -87,7 +87,7 @@ fn value_rule(register: u32, value: u64) -> bool {
 /// 5.17, 5.18
 pub fn allow_rule(ecx: u32) -> bool {
     let vector = ecx % 256;
-    ecx < 512 && (vector == 2 || vector >= 31)
+    ecx < 512 && (vector == 2 || vector == 18 || vector >= 31)
 }
 
 /// 5.16

@@ -6,7 +6,7 @@ use std::io::{BufRead, Result};
 use crate::lines::Lines;
 
 /// The lines that can be printed (`docs/REPLAY.md`, section 11), numbers left out but for codes.
-const EXPECTED: [&str; 34] = [
+const EXPECTED: [&str; 35] = [
     "start ok",
     "start refused 0x5",
     "notice ok, no item",
@@ -25,6 +25,7 @@ const EXPECTED: [&str; 34] = [
     "call refused 0x80000007",
     "call refused 0x80001000",
     "entry nothing",
+    "entry mc",
     "entry nmi",
     "entry vector",
     "entry window",

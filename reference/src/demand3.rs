@@ -88,7 +88,7 @@ pub fn admitted_by_book(book: &Book, vmpl: u32, vcpu: u32, page: &[u8]) -> Admit
 }
 
 /// For one vCPU: how many more times each item could be presented under the bound, and the item of
-/// its last accepted entry (12.22). Item 256 is the NMI.
+/// its last accepted entry (12.22). Item 256 is the NMI, 257 the machine check.
 #[derive(Clone)]
 struct Account {
     rest: Vec<i64>,
@@ -103,6 +103,7 @@ fn place(item: Item) -> usize {
     match item {
         Item::Vector(v) => v,
         Item::Nmi => 256,
+        Item::MachineCheck => 257,
     }
 }
 
@@ -167,7 +168,7 @@ impl Counts {
 fn counted(list: &[Event], answers: &[Answer]) -> Result<(Counts, Book), String> {
     let (mut book, vmpl) = opened(list);
     let none = Account {
-        rest: vec![0; 257],
+        rest: vec![0; 258],
         latest: None,
     };
     let mut counts = Counts {

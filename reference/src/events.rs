@@ -114,7 +114,7 @@ pub fn notice(m: &mut Module, vcpu: u32, page: &mut [u8]) -> Result<Admission, C
     Ok(admission)
 }
 
-/// 4.25, 4.28, 4.29, 4.37. No item stands twice among these, so none finds itself pending.
+/// 4.25, 4.28, 4.29, 4.37, 4.42. No item stands twice among these, so none finds itself pending.
 fn admit(record: &mut Record, items: &[Item]) -> Admission {
     let mut admission = Admission { new: 0, merged: 0 };
     for &item in items {
@@ -128,7 +128,7 @@ fn admit(record: &mut Record, items: &[Item]) -> Admission {
     admission
 }
 
-/// 8.2, 8.3, 8.6 to 8.14
+/// 8.2, 8.3, 8.6 to 8.14, 8.17, 8.18
 pub fn entry(
     m: &mut Module,
     vcpu: u32,
@@ -139,6 +139,11 @@ pub fn entry(
     m.active(vcpu)?;
     let record = m.record_mut(vcpu);
     record.flight = None;
+    if record.machine_check {
+        record.machine_check = false;
+        record.flight = Some(Item::MachineCheck);
+        return Ok(Shown::Presented(Item::MachineCheck));
+    }
     if record.nmi && !shadow && !blocked {
         record.nmi = false;
         record.flight = Some(Item::Nmi);
@@ -168,12 +173,13 @@ fn present(record: &mut Record, v: usize) {
     record.flight = Some(Item::Vector(v));
 }
 
-/// 9.2, 9.3, 9.7
+/// 9.2, 9.3, 9.7, 9.9
 pub fn non_delivery(m: &mut Module, vcpu: u32) -> Result<u32, Code> {
     m.active(vcpu)?;
     let record = m.record_mut(vcpu);
     match record.flight {
         None => return Err(NOTHING_IN_FLIGHT),
+        Some(Item::MachineCheck) => record.machine_check = true,
         Some(Item::Nmi) => record.nmi = true,
         Some(Item::Vector(v)) => give_back(record, v),
     }
@@ -217,6 +223,7 @@ pub fn hand_back(
     record.pending_level = VectorSet::empty();
     record.serving_level = VectorSet::empty();
     record.nmi = false;
+    record.machine_check = false;
     record.phase = Phase::Left;
     Ok(result)
 }

@@ -14,6 +14,7 @@ pub mod generate;
 pub mod icr;
 pub mod ipi;
 pub mod lines;
+pub mod machine_checks;
 pub mod merging;
 pub mod odd_lines;
 pub mod page;

@@ -1,5 +1,6 @@
-//! How often the requests of a trace meet what is pending, in service or in flight. Answers alone do
-//! not tell whom an IPI reached, so the trace is played.
+//! How often the requests of a trace meet what is pending, in service or in flight, and what becomes
+//! of machine checks. Answers alone do not tell whom an IPI reached, nor which item was admitted, so
+//! the trace is played.
 
 use std::collections::BTreeMap;
 use std::io::{BufRead, Result};
@@ -8,12 +9,13 @@ use crate::coverage::{listed, report};
 use crate::events::{step, Answer, Event};
 use crate::ipi::Ipi;
 use crate::lines::Lines;
+use crate::machine_checks;
 use crate::page::{admitted, Admitted};
 use crate::state::{Item, Module, Phase, Record};
 use crate::trace::{read, Line};
 
 /// Of an accepted notice each kind that one of its items has, of an accepted IPI the one it has.
-const EXPECTED: [&str; 15] = [
+const REQUESTS: [&str; 15] = [
     "notice, NMI, was pending",
     "notice, level-sensitive, was pending as edge",
     "notice, edge, was pending as level-sensitive",
@@ -31,6 +33,10 @@ const EXPECTED: [&str; 15] = [
     "self-IPI, not named",
 ];
 
+fn expected() -> Vec<&'static str> {
+    [&REQUESTS[..], &machine_checks::KINDS].concat()
+}
+
 pub struct Merging {
     counts: BTreeMap<String, u64>,
 }
@@ -47,32 +53,36 @@ impl Merging {
             };
             let before = module.clone();
             let answer = step(&mut module, &mut event.clone());
-            for kind in kinds(&before, &event, &answer) {
+            let of_machine_checks = machine_checks::kinds(&before, &event, &answer);
+            for kind in kinds(&before, &event, &answer)
+                .into_iter()
+                .chain(of_machine_checks)
+            {
                 *counts.entry(kind).or_insert(0) += 1;
             }
         }
         Ok(Merging { counts })
     }
 
-    fn count(&self, kind: &str) -> u64 {
+    pub fn count(&self, kind: &str) -> u64 {
         self.counts.get(kind).copied().unwrap_or(0)
     }
 
     /// Of the kind that is met least.
     pub fn fewest(&self) -> u64 {
-        let counts = EXPECTED.iter().map(|kind| self.count(kind));
+        let counts = expected().into_iter().map(|kind| self.count(kind));
         counts.min().expect("there are kinds")
     }
 
     pub fn missing(&self) -> Vec<&'static str> {
-        EXPECTED
+        expected()
             .into_iter()
             .filter(|kind| self.count(kind) == 0)
             .collect()
     }
 
     pub fn report(&self) -> String {
-        report(&EXPECTED, &self.counts) + &listed("missing", &self.missing())
+        report(&expected(), &self.counts) + &listed("missing", &self.missing())
     }
 }
 
@@ -117,7 +127,7 @@ fn ipi_kind(before: &Module, ipi: &Ipi, named: u64) -> String {
         (true, _) if named == 0 => return "self-IPI, not named".to_string(),
         (true, _) => return "self-IPI, named".to_string(),
         (false, Item::Nmi) => "NMI IPI",
-        (false, Item::Vector(_)) => "vector IPI",
+        (false, _) => "vector IPI",
     };
     let whom = match (reached(before, ipi), named) {
         (0, _) => "nobody reached",

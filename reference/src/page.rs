@@ -7,6 +7,7 @@ use crate::state::{Item, Record};
 
 const INJECTION_INFO: usize = 2;
 const NMI: usize = 8;
+const MACHINE_CHECK: usize = 9;
 const LEVEL: usize = 10;
 const MANY: usize = 14;
 const LOWEST: usize = 31;
@@ -51,6 +52,7 @@ pub fn announces(page: &[u8], vmpl: u32) -> bool {
 #[derive(Clone, PartialEq, Eq, Debug)]
 pub struct Admitted {
     pub nmi: bool,
+    pub machine_check: bool,
     pub level: Option<usize>,
     pub edge: VectorSet,
 }
@@ -60,6 +62,7 @@ impl Admitted {
     pub fn nothing() -> Admitted {
         Admitted {
             nmi: false,
+            machine_check: false,
             level: None,
             edge: VectorSet::empty(),
         }
@@ -72,11 +75,14 @@ impl Admitted {
         if self.nmi {
             items.push(Item::Nmi);
         }
+        if self.machine_check {
+            items.push(Item::MachineCheck);
+        }
         items
     }
 }
 
-/// 4.15 to 4.24
+/// 4.15 to 4.24, 4.40. For a machine check bit 9 alone is looked at, and no mark of 18 (4.41).
 pub fn admitted(page: &[u8], vmpl: u32, allowed: &VectorSet) -> Admitted {
     if !announces(page, vmpl) {
         return Admitted::nothing();
@@ -88,6 +94,7 @@ pub fn admitted(page: &[u8], vmpl: u32, allowed: &VectorSet) -> Admitted {
 
     let mut part = Admitted::nothing();
     part.nmi = bit(page, start, NMI) && allowed.has(2);
+    part.machine_check = bit(page, start, MACHINE_CHECK) && allowed.has(18);
     if level && vector_allowed {
         part.level = Some(vector);
     }
@@ -114,7 +121,7 @@ fn marked_and_allowed(page: &[u8], vmpl: u32, allowed: &VectorSet) -> VectorSet 
     set
 }
 
-/// 4.31 to 4.35
+/// 4.31 to 4.35, 4.43
 pub fn clear_notice(page: &mut [u8], vmpl: u32) {
     let start = descriptor(vmpl);
     let mut cleared: Vec<usize> = (0..=10).collect();
@@ -128,7 +135,7 @@ pub fn clear_notice(page: &mut [u8], vmpl: u32) {
     }
 }
 
-/// 10.3 to 10.11
+/// 10.3 to 10.11, 10.17
 pub fn write_handback(page: &mut [u8], vmpl: u32, record: &Record) {
     let start = descriptor(vmpl);
     page[start..start + 64].fill(0);
@@ -138,6 +145,9 @@ pub fn write_handback(page: &mut [u8], vmpl: u32, record: &Record) {
     }
     if record.nmi {
         set_bit(page, start, NMI);
+    }
+    if record.machine_check {
+        set_bit(page, start, MACHINE_CHECK);
     }
     let edge = record.pending.without(&record.pending_level);
     if write_vectors(page, start, &edge) {

@@ -43,6 +43,7 @@ fn admission(answer: &Result<Admission, Code>) -> String {
 fn shown(answer: &Result<Shown, Code>) -> String {
     match answer {
         Ok(Shown::Nothing) => "nothing".to_string(),
+        Ok(Shown::Presented(Item::MachineCheck)) => "mc".to_string(),
         Ok(Shown::Presented(Item::Nmi)) => "nmi".to_string(),
         Ok(Shown::Presented(Item::Vector(v))) => format!("vector {v:#x}"),
         Ok(Shown::Window(v)) => format!("window {v:#x}"),
@@ -81,12 +82,13 @@ fn record_text(r: &Record) -> String {
     };
     let flight = match r.flight {
         None => "nothing".to_string(),
+        Some(Item::MachineCheck) => "mc".to_string(),
         Some(Item::Nmi) => "nmi".to_string(),
         Some(Item::Vector(v)) => format!("{v:#x}"),
     };
     format!(
         "phase={phase} flight={flight} nmi={:#x} tpr={:#x} icr={:#x} allowed={} pending={} \
-         service={} pending_level={} serving_level={}",
+         service={} pending_level={} serving_level={} mc={:#x}",
         u8::from(r.nmi),
         r.tpr,
         r.icr,
@@ -94,7 +96,8 @@ fn record_text(r: &Record) -> String {
         set(&r.pending),
         set(&r.service),
         set(&r.pending_level),
-        set(&r.serving_level)
+        set(&r.serving_level),
+        u8::from(r.machine_check)
     )
 }
 

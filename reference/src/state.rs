@@ -10,19 +10,23 @@ pub enum Phase {
     Left,
 }
 
-/// What can be admitted, sent, presented and returned: the NMI or a vector.
+/// What can be admitted, sent, presented and returned. The machine check can be all of these but sent
+/// (7.27).
 #[derive(Clone, Copy, PartialEq, Eq, Debug)]
 pub enum Item {
+    MachineCheck,
     Nmi,
     Vector(usize),
 }
 
-/// Every item there is: the NMI and the vectors 0 to 255.
+/// Every item there is: the machine check, the NMI and the vectors 0 to 255.
 pub fn items() -> impl Iterator<Item = Item> {
-    [Item::Nmi].into_iter().chain((0..256).map(Item::Vector))
+    [Item::MachineCheck, Item::Nmi]
+        .into_iter()
+        .chain((0..256).map(Item::Vector))
 }
 
-/// 2.3 to 2.11
+/// 2.3 to 2.11, 2.16
 #[derive(Clone, PartialEq, Eq, Debug)]
 pub struct Record {
     pub allowed: VectorSet,
@@ -31,6 +35,7 @@ pub struct Record {
     pub pending_level: VectorSet,
     pub serving_level: VectorSet,
     pub nmi: bool,
+    pub machine_check: bool,
     pub tpr: u8,
     pub icr: u64,
     pub phase: Phase,
@@ -56,6 +61,7 @@ impl Record {
             pending_level: VectorSet::empty(),
             serving_level: VectorSet::empty(),
             nmi: false,
+            machine_check: false,
             tpr: 0,
             icr: 0,
             phase: Phase::Active,
@@ -63,17 +69,19 @@ impl Record {
         }
     }
 
-    /// 2.5, 2.8. The IRR and the NMI mark alone are asked, the level-sensitive part is not.
+    /// 2.5, 2.8, 2.16. The IRR and the two marks alone are asked, the level-sensitive part is not.
     pub fn has_pending(&self, item: Item) -> bool {
         match item {
+            Item::MachineCheck => self.machine_check,
             Item::Nmi => self.nmi,
             Item::Vector(v) => self.pending.has(v),
         }
     }
 
-    /// 4.25, 4.28, 7.17
+    /// 4.25, 4.28, 4.42, 7.17
     pub fn add_pending(&mut self, item: Item) {
         match item {
+            Item::MachineCheck => self.machine_check = true,
             Item::Nmi => self.nmi = true,
             Item::Vector(v) => self.pending.put(v),
         }

@@ -64,7 +64,7 @@ fn change(r: &mut Random, page: &mut [u8], vmpl: u32) {
         3 => flip(page, start, r.between(16, 30)),
         4 => flip(page, start, r.between(31, 255)),
         5 => page[start] = r.byte(),
-        6 => flip(page, start, r.pick(&[8, 10, 14])),
+        6 => flip(page, start, r.pick(&[8, 9, 10, 14])),
         7 => flip(page, 2, 7 + vmpl as usize),
         _ => {
             let last = page.len() - 1;
@@ -82,6 +82,9 @@ fn rebuilt(r: &mut Random, length: usize, vmpl: u32, a: &VectorSet, part: &Admit
     put(&mut page, 2, 7 + vmpl as usize, true);
     if a.has(2) {
         put(&mut page, start, 8, part.nmi);
+    }
+    if a.has(18) {
+        put(&mut page, start, 9, part.machine_check);
     }
     put(&mut page, start, 10, part.level.is_some());
     put(&mut page, start, 14, many);

@@ -167,7 +167,20 @@ fn state_lines() {
         "start ok\ncall ok 0x0\ncall ok 0x0\nnotice ok 0x2 0x0 page 0x100=0x9\ncall ok 0x1\n\
         call ok 0x0\nentry vector 0xff\nmodule n=0x1 vmpl=0x3 count=0x1\n\
         vcpu 0x0 phase=active flight=0xff nmi=0x1 tpr=0x10 icr=0x0 allowed={0x2,0x61} \
-        pending={0x61} service={0xff} pending_level={0x61} serving_level={}\n";
+        pending={0x61} service={0xff} pending_level={0x61} serving_level={} mc=0x0\n";
+    assert_eq!(play_text(trace.as_bytes()), output);
+}
+
+/// The mark of the machine check is a `vcpu` line's last part, and `mc` is what is in flight.
+#[test]
+fn machine_check_lines() {
+    let trace = "start 1 1\ncall 0 4 0x112 0\nnotice 0 256 3=1 65=2\nstate\nentry 0 0 1 1\nstate\n";
+    let output = "start ok\ncall ok 0x0\nnotice ok 0x1 0x0 page\nmodule n=0x1 vmpl=0x1 count=0x1\n\
+        vcpu 0x0 phase=active flight=nothing nmi=0x0 tpr=0x0 icr=0x0 allowed={0x12} pending={} \
+        service={} pending_level={} serving_level={} mc=0x1\nentry mc\n\
+        module n=0x1 vmpl=0x1 count=0x1\n\
+        vcpu 0x0 phase=active flight=mc nmi=0x0 tpr=0x0 icr=0x0 allowed={0x12} pending={} \
+        service={} pending_level={} serving_level={} mc=0x0\n";
     assert_eq!(play_text(trace.as_bytes()), output);
 }
 
@@ -204,6 +217,7 @@ fn coverage_names_what_is_missing() {
     let some = Coverage::of(&b"start ok\nnotice ok 0x1 0x0 page\nentry vector 0x41\n"[..]).unwrap();
     assert!(!some.missing().contains(&"entry vector"));
     assert!(some.missing().contains(&"entry window"));
+    assert!(some.missing().contains(&"entry mc"));
     assert!(some.missing().contains(&"notice ok, merged"));
     assert!(some.unexpected().is_empty());
     let odd = Coverage::of(&b"call refused 0x2\n"[..]).unwrap();

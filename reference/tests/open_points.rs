@@ -175,17 +175,17 @@ fn which_bits_survive_a_notice() {
 
 /// 4.29, 4.30, 4.37
 #[test]
-fn items_count_each_time_and_226_is_most() {
+fn items_count_each_time_and_227_is_most() {
     let mut m = fresh(2, 1);
     m.records[0].allowed = VectorSet::all();
-    assert_eq!(notice(&mut m, 0, &mut [0xFF; 256]), counted(226, 0));
-    assert_eq!(notice(&mut m, 0, &mut [0xFF; 256]), counted(0, 226));
+    assert_eq!(notice(&mut m, 0, &mut [0xFF; 256]), counted(227, 0));
+    assert_eq!(notice(&mut m, 0, &mut [0xFF; 256]), counted(0, 227));
     assert_eq!(
         m.records[0].pending.members(),
         (31..=255).collect::<Vec<usize>>()
     );
     assert_eq!(m.records[0].pending_level, set(&[255]));
-    assert!(m.records[0].nmi);
+    assert!(m.records[0].nmi && m.records[0].machine_check);
 }
 
 /// 4.29, 4.37: level-sensitive or edge makes no difference, to what is requested and to what was

@@ -1,4 +1,4 @@
-//! The cases worked here (14.21 to 14.44, 14.46 to 14.58), on an implementation that was written apart from the definitions.
+//! The cases worked here (14.21 to 14.44, 14.46 to 14.68), on an implementation that was written apart from the definitions.
 
 mod common;
 
@@ -7,6 +7,7 @@ use reference::calls::call;
 use reference::codes::{BAD_VALUE, NOTHING_IN_FLIGHT, SHORT_PAGE, UNKNOWN_VCPU};
 use reference::events::{entry, hand_back, non_delivery, notice, Shown};
 use reference::registers::{kind, Kind};
+use reference::set::VectorSet;
 use reference::state::{Item, Module, Phase, Record};
 
 const EOI: u32 = 0x80B;
@@ -503,10 +504,9 @@ fn an_ipi_that_names_nobody() {
 #[test]
 fn the_most_that_a_notice_admits() {
     let all: Vec<usize> = (0..256).collect();
-    for (record, answer) in [
-        (Record::fresh(), counted(226, 0)),
-        (pending(&all, true), counted(0, 226)),
-    ] {
+    let mut full = pending(&all, true);
+    full.machine_check = true;
+    for (record, answer) in [(Record::fresh(), counted(227, 0)), (full, counted(0, 227))] {
         let mut m = fresh(2, 1);
         m.records[0] = record;
         m.records[0].allowed = set(&all);
@@ -539,4 +539,174 @@ fn places_at_n_and_above_are_not_named() {
     m.n = 2;
     assert_eq!(write(&mut m, 0, ICR, 0x84041), Ok(3));
     assert_eq!(m.records[2], Record::fresh());
+}
+
+const MACHINE_CHECK: Shown = Shown::Presented(Item::MachineCheck);
+
+/// vCPU 0 of two with both marks set, 0xFF in service and a TPR of 0xFF (14.63).
+fn both_marks() -> Module {
+    let mut m = fresh(2, 1);
+    m.records[0] = pending(&[], true);
+    m.records[0].machine_check = true;
+    m.records[0].service = set(&[0xFF]);
+    m.records[0].tpr = 0xFF;
+    m
+}
+
+/// 14.59
+#[test]
+fn a_machine_check_is_admitted() {
+    let mut m = allowing(&[18]);
+    for answer in [counted(1, 0), counted(0, 1)] {
+        let mut p = page(&[(3, 1), (65, 0x02)]);
+        assert_eq!(notice(&mut m, 0, &mut p), answer);
+        assert_eq!(p, page(&[]));
+        assert!(m.records[0].machine_check);
+    }
+}
+
+/// 14.60
+#[test]
+fn a_machine_check_that_is_not_allowed() {
+    let all_but_18: Vec<usize> = (0..256).filter(|&v| v != 18).collect();
+    let mut m = allowing(&all_but_18);
+    let mut p = page(&[(3, 1), (65, 0x02)]);
+    assert_eq!(notice(&mut m, 0, &mut p), counted(0, 0));
+    assert_eq!(p, page(&[]));
+    assert_eq!(m, allowing(&all_but_18));
+}
+
+/// 14.61
+#[test]
+fn a_machine_check_among_three_items() {
+    let three = [(3, 1), (64, 0x41), (65, 0x03)];
+    let (answer, after) = told(&Record::fresh(), &three);
+    assert_eq!(answer, counted(3, 0));
+    let mut expected = pending(&[0x41], true);
+    expected.machine_check = true;
+    expected.allowed = VectorSet::all();
+    assert_eq!(after, expected);
+    let mut marked = Record::fresh();
+    marked.machine_check = true;
+    let (answer, after) = told(&marked, &three);
+    assert_eq!(answer, counted(2, 1));
+    assert_eq!(after, expected);
+}
+
+/// 14.62
+#[test]
+fn what_is_no_machine_check() {
+    let mut m = fresh(2, 1);
+    m.records[0].allowed = VectorSet::all();
+    for (bytes, left) in [
+        (&[(3, 1), (64, 18)][..], &[][..]),
+        (&[(3, 1), (64, 18), (65, 0x04)], &[]),
+        (&[(3, 1), (65, 0x40), (66, 0x04)], &[(66, 0x04)]),
+    ] {
+        let before = m.clone();
+        let mut p = page(bytes);
+        assert_eq!(notice(&mut m, 0, &mut p), counted(0, 0));
+        assert_eq!(p, page(left));
+        assert_eq!(m, before);
+    }
+}
+
+/// 14.63
+#[test]
+fn nothing_holds_a_machine_check_back() {
+    let mut m = both_marks();
+    let mut after = m.clone();
+    after.records[0].machine_check = false;
+    after.records[0].flight = Some(Item::MachineCheck);
+    assert_eq!(entry(&mut m, 0, false, true, true), Ok(MACHINE_CHECK));
+    assert_eq!(m, after);
+    assert_eq!(
+        entry(&mut m, 0, false, false, false),
+        Ok(Shown::Presented(Item::Nmi))
+    );
+}
+
+/// 14.64
+#[test]
+fn a_machine_check_comes_back() {
+    let mut m = both_marks();
+    let before = m.clone();
+    assert_eq!(entry(&mut m, 0, false, true, true), Ok(MACHINE_CHECK));
+    let mut called = m.clone();
+    assert_eq!(non_delivery(&mut m, 0), Ok(0));
+    assert_eq!(m, before);
+    assert_eq!(entry(&mut m, 0, false, true, true), Ok(MACHINE_CHECK));
+    assert_eq!(call(&mut called, 0, 0, 0, 0), Ok(0));
+    assert_eq!(non_delivery(&mut called, 0), Err(NOTHING_IN_FLIGHT));
+}
+
+/// 14.65
+#[test]
+fn a_machine_check_is_handed_back() {
+    let mut both = pending(&[0x41], true);
+    both.machine_check = true;
+    let mut alone = Record::fresh();
+    alone.machine_check = true;
+    for (mut record, bytes) in [
+        (alone, &[(65, 0x02)][..]),
+        (both, &[(65, 0x43), (72, 0x02)]),
+    ] {
+        record.phase = Phase::Leaving;
+        let mut m = fresh(2, 1);
+        m.records[0] = record;
+        let mut p = page(&[]);
+        assert_eq!(hand_back(&mut m, 0, &mut p, true, false), Ok(65_537));
+        assert_eq!(p, page(bytes));
+        let mut left = fresh(2, 1);
+        left.records[0].phase = Phase::Left;
+        assert_eq!(m, left);
+    }
+}
+
+/// 14.66
+#[test]
+fn call_4_takes_18() {
+    let mut m = fresh(2, 1);
+    assert_eq!(call(&mut m, 0, 4, 0x112, 0), Ok(0));
+    assert_eq!(m, allowing(&[18]));
+    for ecx in [0x111, 0x113, 0x011, 0x013, 0x312] {
+        assert_eq!(call(&mut m, 0, 4, ecx, 0), Err(BAD_VALUE), "{ecx:#x}");
+        assert_eq!(m, allowing(&[18]));
+    }
+    m.records[0].machine_check = true;
+    assert_eq!(call(&mut m, 0, 4, 0x012, 0), Ok(0));
+    assert_eq!(m.records[0].allowed, set(&[]));
+    assert_eq!(entry(&mut m, 0, true, false, false), Ok(MACHINE_CHECK));
+}
+
+/// 14.67
+#[test]
+fn no_ipi_sends_a_machine_check() {
+    let mut m = fresh(2, 1);
+    for (register, value) in [(ICR, 0x4012), (SELF_IPI, 18)] {
+        assert_eq!(write(&mut m, 0, register, value), Err(BAD_VALUE));
+        assert_eq!(m, fresh(2, 1));
+    }
+    assert_eq!(write(&mut m, 0, ICR, 0xFFFF_FFFF_0000_4400), Ok(3));
+    assert!(m.records.iter().all(|r| r.nmi && !r.machine_check));
+}
+
+/// 14.68
+#[test]
+fn registers_do_not_know_the_machine_check() {
+    let mut m = fresh(2, 1);
+    m.records[0].service = set(&[0x41]);
+    m.records[0].machine_check = true;
+    assert_eq!(entry(&mut m, 0, true, false, false), Ok(MACHINE_CHECK));
+    for (register, value) in [
+        (0x80A, 0x40),
+        (0x812, 2),
+        (0x810, 0),
+        (0x818, 0),
+        (0x820, 0),
+    ] {
+        assert_eq!(read(&mut m.clone(), 0, register), Ok(value));
+    }
+    assert_eq!(write(&mut m, 0, EOI, 0), Ok(0));
+    assert_eq!(m, fresh(2, 1));
 }

@@ -107,16 +107,29 @@ impl Generator {
     fn self_ipi(&mut self, vcpu: u32) -> Event {
         let value = match self.random.chance(85) {
             true => self.vector(vcpu) as u64,
-            false => self
-                .random
-                .pick(&[0, 2, 30, 31, 255, 256, 0x141, 0x4041, (1 << 32) + 0x41]),
+            false => self.random.pick(&[
+                0,
+                2,
+                18,
+                18,
+                30,
+                31,
+                255,
+                256,
+                0x141,
+                0x4041,
+                (1 << 32) + 0x41,
+            ]),
         };
         write(vcpu, SELF_IPI, value)
     }
 
     pub(super) fn allow_or_not(&mut self, vcpu: u32) -> Event {
         let put = self.random.chance(70);
-        let v = self.vector(vcpu);
+        let v = match self.random.chance(15) {
+            true => self.random.pick(&[18, 18, 18, 18, 17, 19]),
+            false => self.vector(vcpu),
+        };
         let Event::Call { ecx, .. } = allow(vcpu, v, put) else {
             unreachable!("allow makes a call");
         };
@@ -250,12 +263,12 @@ impl Generator {
             0 => value | 1 << r.pick(&[12, 13, 16, 17]),
             1 => value | 1 << r.between(20, 31),
             2 => (value & !0x700) | kind << 8,
-            3 => (value & !0x7FF) | r.pick(&[0, 1, 2, 15, 16, 29, 30]),
+            3 => (value & !0x7FF) | r.pick(&[0, 1, 2, 15, 16, 18, 18, 29, 30]),
             _ => (value & !0xC_0700) | 0x400 | r.pick(&[1, 2]) << 18,
         }
     }
 
-    /// Another vCPU sends the item to this one.
+    /// Another vCPU sends the item to this one. For the machine check it can only try (7.27).
     pub(super) fn send_to(&mut self, vcpu: u32, item: Item) -> Event {
         let sender = self.vcpu();
         self.send(sender, u64::from(vcpu), item)
@@ -263,6 +276,7 @@ impl Generator {
 
     fn send(&mut self, sender: u32, destination: u64, item: Item) -> Event {
         let low = match item {
+            Item::MachineCheck => 18,
             Item::Nmi => 0x400,
             Item::Vector(v) => v as u64,
         };
@@ -279,7 +293,7 @@ impl Generator {
                 let sender = self.vcpu();
                 self.send(sender, 0xFFFF_FFFF, item)
             }
-            (_, Item::Nmi) => self.send_to(vcpu, item),
+            (_, Item::MachineCheck | Item::Nmi) => self.send_to(vcpu, item),
             (_, Item::Vector(v)) => write(vcpu, SELF_IPI, v as u64),
         }
     }

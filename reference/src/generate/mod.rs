@@ -17,8 +17,8 @@ use crate::random::Random;
 use crate::state::{Item, Module, Phase};
 
 /// Vectors at the borders of a rule, and the one this gate was built for.
-const CORNERS: [usize; 14] = [
-    2, 30, 31, 32, 47, 48, 0x41, 0x4F, 0x50, 0x80, 0x81, 0xEF, 254, 255,
+const CORNERS: [usize; 15] = [
+    2, 18, 30, 31, 32, 47, 48, 0x41, 0x4F, 0x50, 0x80, 0x81, 0xEF, 254, 255,
 ];
 
 /// How often each kind of event comes in one list, in the order of `Generator::choose`.
@@ -32,7 +32,7 @@ const STYLES: [Style; 4] = [
     // A guest that tries registers and calls.
     [8, 20, 25, 20, 8, 2, 12, 2, 1, 4, 0],
     // vCPUs that leave and are handed back.
-    [20, 4, 8, 8, 8, 4, 22, 4, 6, 2, 4],
+    [20, 4, 8, 8, 8, 4, 22, 4, 6, 2, 8],
 ];
 
 const LEAVING: usize = 3;
@@ -81,7 +81,7 @@ impl Generator {
         let (n, vmpl) = self.size();
         let good = (1..=32).contains(&n) && (1..=3).contains(&vmpl);
         let r = &mut self.random;
-        let style = r.below(STYLES.len());
+        let style = r.weighted(&[2, 2, 2, 4]);
         self.style = STYLES[style];
         self.left = match (good, style, r.weighted(&[35, 50, 15])) {
             (false, _, _) => r.between(3, 10),
@@ -127,8 +127,10 @@ impl Generator {
                     self.queue.push_back(calls::allow(vcpu, v, true));
                 }
             }
-            if self.random.chance(60) {
-                self.queue.push_back(calls::allow(vcpu, 2, true));
+            for v in [2, 18] {
+                if self.random.chance(60) {
+                    self.queue.push_back(calls::allow(vcpu, v, true));
+                }
             }
         }
         if n <= 2 && self.random.chance(6) {
@@ -138,8 +140,7 @@ impl Generator {
     }
 
     fn allow_everything(&mut self) {
-        self.queue.push_back(calls::allow(0, 2, true));
-        for v in 31..=255 {
+        for v in [2, 18].into_iter().chain(31..=255) {
             self.queue.push_back(calls::allow(0, v, true));
         }
         let full = self.full_page();
@@ -180,6 +181,24 @@ impl Generator {
         let mut active = self.in_phase(Phase::Active);
         active.push(self.vcpu());
         let vcpu = self.random.pick(&active);
+        self.fill_up(vcpu);
+        for _ in 0..self.module.count.clamp(1, 6) {
+            self.queue.push_back(Event::Call {
+                vcpu,
+                call: 1,
+                ecx: 1,
+                rdx: 0,
+            });
+        }
+        self.give_back(vcpu);
+        self.left += self.queue.len();
+        let first = self.random.pick(&[2, 18]);
+        calls::allow(vcpu, first, true)
+    }
+
+    /// Requests, and guest events among them that take some of these; the machine check is often the
+    /// last, so that it is still pending when the vCPU leaves.
+    fn fill_up(&mut self, vcpu: u32) {
         let alone = self.random.chance(30);
         for _ in 0..self.random.between(1, 4) {
             let item = Item::Vector(self.vector(vcpu));
@@ -198,14 +217,15 @@ impl Generator {
         ];
         self.queue
             .extend(more.into_iter().filter(|_| self.random.chance(60)));
-        for _ in 0..self.module.count.clamp(1, 6) {
-            self.queue.push_back(Event::Call {
-                vcpu,
-                call: 1,
-                ecx: 1,
-                rdx: 0,
-            });
+        if self.random.chance(60) {
+            let page = self.level_page(Item::MachineCheck);
+            self.queue.push_back(calls::allow(vcpu, 18, true));
+            self.queue.push_back(Event::Notice { vcpu, page });
         }
+    }
+
+    /// Hand-backs, and events that come too late.
+    fn give_back(&mut self, vcpu: u32) {
         let late = [
             self.entry(vcpu),
             Event::NonDelivery { vcpu },
@@ -223,8 +243,6 @@ impl Generator {
                 page,
             });
         }
-        self.left += self.queue.len();
-        calls::allow(vcpu, 2, true)
     }
 
     /// Events that belong behind the one just played.
@@ -247,6 +265,32 @@ impl Generator {
         if self.random.chance(15) {
             let page = self.page_again(vcpu, page);
             self.at_once(Event::Notice { vcpu, page });
+        }
+        let free = self.queue.is_empty();
+        if free && self.module.record(vcpu).machine_check && self.random.chance(60) {
+            self.with_machine_check(vcpu);
+        }
+    }
+
+    /// An entry while the machine check is pending, often with the NMI pending too or after the guest
+    /// has taken 18 out.
+    fn with_machine_check(&mut self, vcpu: u32) {
+        let entry = self.held_entry(vcpu);
+        self.at_once(entry);
+        match self.random.below(5) {
+            0 => {
+                let ipi = self.send_to(vcpu, Item::Nmi);
+                self.at_once(ipi);
+            }
+            1 => {
+                let page = self.page_with(vcpu, Item::Nmi);
+                self.at_once(Event::Notice { vcpu, page });
+            }
+            2 => {
+                self.at_once(calls::allow(vcpu, 18, false));
+                self.queue.push_back(calls::allow(vcpu, 18, true));
+            }
+            _ => {}
         }
     }
 
@@ -273,7 +317,7 @@ impl Generator {
 
     /// A non-delivery, sometimes with something between the entry and it.
     fn intercepted(&mut self, vcpu: u32, item: Item) {
-        let between = match self.random.below(6) {
+        let between = match self.random.weighted(&[2, 1, 1, 1, 2]) {
             0 => Some(Event::Notice {
                 vcpu,
                 page: self.page_with(vcpu, item),
@@ -293,6 +337,18 @@ impl Generator {
     fn entry(&mut self, vcpu: u32) -> Event {
         let r = &mut self.random;
         let (if_set, shadow, blocked) = (r.chance(80), r.chance(15), r.chance(20));
+        Event::Entry {
+            vcpu,
+            if_set,
+            shadow,
+            blocked,
+        }
+    }
+
+    /// An entry that would hold most things back.
+    fn held_entry(&mut self, vcpu: u32) -> Event {
+        let r = &mut self.random;
+        let (if_set, shadow, blocked) = (r.chance(40), r.chance(50), r.chance(50));
         Event::Entry {
             vcpu,
             if_set,

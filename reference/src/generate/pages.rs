@@ -54,7 +54,10 @@ impl Generator {
         let start = descriptor(vmpl);
         page[start] = self.vector(vcpu) as u8;
         let r = &mut self.random;
-        for (number, percent) in [(8, 20), (9, 10), (10, 38), (14, 38)] {
+        if r.chance(4) {
+            page[start] = 18;
+        }
+        for (number, percent) in [(8, 20), (9, 22), (10, 38), (14, 38)] {
             if r.chance(percent) {
                 set_bit(page, start, number);
             }
@@ -76,6 +79,9 @@ impl Generator {
         }
         if self.random.chance(2) {
             page[start + 3..start + 32].fill(0xFF);
+        }
+        if self.random.chance(8) {
+            set_bit(page, start, 18);
         }
         for _ in 0..self.random.between(1, 5) {
             let v = self.vector(vcpu).max(31);
@@ -125,6 +131,7 @@ impl Generator {
         let mut page = vec![0; 256];
         set_bit(&mut page, 2, 7 + vmpl as usize);
         match item {
+            Item::MachineCheck => set_bit(&mut page, start, 9),
             Item::Nmi => set_bit(&mut page, start, 8),
             Item::Vector(v) => page[start] = v as u8,
         }
@@ -136,7 +143,7 @@ impl Generator {
         let start = descriptor(self.module.vmpl);
         let mut page = self.single_page(item);
         match (item, self.random.below(3)) {
-            (Item::Nmi, _) | (_, 0) => {}
+            (Item::MachineCheck | Item::Nmi, _) | (_, 0) => {}
             (_, 1) => page = self.level_page(item),
             (Item::Vector(v), _) => {
                 page[start] = self.vector(vcpu) as u8;
@@ -157,7 +164,8 @@ impl Generator {
         }
     }
 
-    /// Marks of allowed vectors, pending and not, often with the NMI or a level-sensitive vector.
+    /// Marks of allowed vectors, pending and not, often with the NMI, the machine check or a
+    /// level-sensitive vector.
     fn mixed_page(&mut self, vcpu: u32) -> Vec<u8> {
         let start = descriptor(self.module.vmpl);
         let mut page = self.single_page(Item::Vector(0));
@@ -175,8 +183,10 @@ impl Generator {
                 set_bit(&mut page, start, 10);
             }
         }
-        if self.random.chance(40) {
-            set_bit(&mut page, start, 8);
+        for number in [8, 9] {
+            if self.random.chance(40) {
+                set_bit(&mut page, start, number);
+            }
         }
         page
     }

@@ -90,8 +90,9 @@ function written(n, value) {
     return value == "0x0" ? "IPI, new to nobody" : "IPI, new to " reached(number(value))
 }
 
-function permitted(ecx) {
-    return (ecx % 256 == 2 ? "the NMI" : sprintf("0x%x", ecx % 256)) (ecx >= 256 ? " is allowed" : " is no longer allowed")
+function permitted(ecx,    vector) {
+    vector = ecx % 256
+    return (vector == 2 ? "the NMI" : vector == 18 ? "the machine check" : sprintf("0x%x", vector)) (ecx >= 256 ? " is allowed" : " is no longer allowed")
 }
 
 function called(call, ecx, value) {
@@ -102,6 +103,14 @@ function called(call, ecx, value) {
     if (call == 2) return register(ecx) " is " value
     if (call == 3) return written(ecx, value)
     return permitted(ecx)
+}
+
+# ---- entries
+
+function presented(what, vector) {
+    if (what == "mc") return "machine check"
+    if (what == "nmi") return "NMI"
+    return what (what == "window" ? " for " : " ") vector
 }
 
 # ---- pages
@@ -147,7 +156,9 @@ function record(line,    word, n, k, at, field) {
         at = index(word[k], "=")
         field[substr(word[k], 1, at - 1)] = substr(word[k], at + 1)
     }
-    return "vCPU " number(word[2]) " " field["phase"] part("in flight", field["flight"], "nothing") (field["nmi"] == "0x0" ? "" : ", NMI pending") \
+    if (field["flight"] == "mc") field["flight"] = "machine check"
+    return "vCPU " number(word[2]) " " field["phase"] part("in flight", field["flight"], "nothing") (field["mc"] == "0x1" ? ", machine check pending" : "") \
+        (field["nmi"] == "0x0" ? "" : ", NMI pending") \
         part("TPR", field["tpr"], "0x0") part("ICR", field["icr"], "0x0") part("allowed", field["allowed"], "{}") \
         part("pending", field["pending"], "{}") part("of these level", field["pending_level"], "{}") \
         part("in service", field["service"], "{}") part("of these level", field["serving_level"], "{}")
@@ -168,7 +179,7 @@ function answer_of(given, words, told, count,    text) {
     else if (told[1] == "start") text = "ok"
     else if (told[1] == "notice") text = admitted(number(told[3]), number(told[4]))
     else if (told[1] == "call") text = called(number(given[3]), number(given[4]), told[3])
-    else if (told[1] == "entry") text = told[2] == "nmi" ? "NMI" : told[2] (told[2] == "window" ? " for " : " ") told[3]
+    else if (told[1] == "entry") text = presented(told[2], told[3])
     else if (told[1] == "nondelivery") text = "pending again"
     else text = handed(number(told[3]))
     if (told[1] == "notice") text = text "; " page(bytes_of(given, 4, words), bytes_of(told, told[2] == "ok" ? 6 : 5, count))

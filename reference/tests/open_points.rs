@@ -8,11 +8,13 @@ use reference::codes::*;
 use reference::demand3::{played, remaining};
 use reference::events::{entry, hand_back, non_delivery, notice, step, Answer, Event, Shown};
 use reference::icr;
+use reference::page::{admitted, set_bit};
 use reference::set::VectorSet;
 use reference::state::{start, Item, Module, Phase, Record};
 
 const NMI: Option<Item> = Some(Item::Nmi);
 const PRESENTED_NMI: Result<Shown, Code> = Ok(Shown::Presented(Item::Nmi));
+const PRESENTED_MC: Result<Shown, Code> = Ok(Shown::Presented(Item::MachineCheck));
 
 fn presented(v: usize) -> Result<Shown, Code> {
     Ok(Shown::Presented(Item::Vector(v)))
@@ -773,4 +775,230 @@ fn what_was_in_flight_at_first_comes_back() {
     assert_eq!(non_delivery(&mut m, 0), Err(NOTHING_IN_FLIGHT));
     assert_eq!(entry(&mut m, 0, true, false, false), presented(0x41));
     assert_eq!(entry(&mut m, 0, true, false, false), Ok(Shown::Nothing));
+}
+
+/// A record with the machine check's mark set, and otherwise fresh.
+fn marked() -> Record {
+    let mut r = Record::fresh();
+    r.machine_check = true;
+    r
+}
+
+/// 2.16, 4.29, 4.37, 4.42: it counts as the NMI does, by its mark alone; in flight it is not pending.
+#[test]
+fn the_machine_check_is_an_item() {
+    let bit_9 = [(3, 1), (65, 0x02)];
+    let mut in_flight = Record::fresh();
+    in_flight.flight = Some(Item::MachineCheck);
+    for (record, answer) in [
+        (Record::fresh(), counted(1, 0)),
+        (marked(), counted(0, 1)),
+        (in_flight, counted(1, 0)),
+    ] {
+        let mut after = record.clone();
+        after.allowed = VectorSet::all();
+        after.machine_check = true;
+        assert_eq!(told(&record, &bit_9), (answer, after));
+    }
+}
+
+/// 4.41: with 18 in A too these ask for nothing, and bit 18 stays in the page as it did.
+#[test]
+fn vector_18_is_only_the_machine_check() {
+    for low in [0x00, 0x04, 0x40, 0x44] {
+        let mut m = allowing(&[18]);
+        let mut p = page(&[(3, 1), (64, 18), (65, low), (66, 0x04)]);
+        assert_eq!(notice(&mut m, 0, &mut p), counted(0, 0), "{low:#x}");
+        assert_eq!(p, page(&[(66, 0x04)]));
+        assert_eq!(m, allowing(&[18]));
+        let mut p = page(&[(3, 1), (64, 18), (65, low + 0x02), (66, 0x04)]);
+        assert_eq!(notice(&mut m, 0, &mut p), counted(1, 0), "{low:#x}");
+        let mut after = allowing(&[18]);
+        after.records[0].machine_check = true;
+        assert_eq!(m, after);
+    }
+}
+
+/// 4.43: what comes with it is admitted as without it, and allowing 18 later does not bring it back.
+#[test]
+fn a_machine_check_that_is_not_allowed_is_lost() {
+    let mut m = allowing(&[2, 0x41]);
+    let mut p = page(&[(3, 1), (64, 0x41), (65, 0x03)]);
+    assert_eq!(notice(&mut m, 0, &mut p), counted(2, 0));
+    assert_eq!(p, page(&[]));
+    assert!(!m.records[0].machine_check);
+    assert_eq!(call(&mut m, 0, 4, 0x112, 0), Ok(0));
+    p[3] = 1;
+    assert_eq!(notice(&mut m, 0, &mut p), counted(0, 0));
+    assert_eq!(entry(&mut m, 0, true, false, false), PRESENTED_NMI);
+}
+
+/// 8.17, 8.18: IF, shadow, NMI-blocked, TPR and ISR, each way; only its own mark goes.
+#[test]
+fn the_machine_check_goes_first_and_is_never_held() {
+    for (tpr, service) in [(0, &[][..]), (0xFF, &[]), (0, &[0xFF]), (0xFF, &[0xFF])] {
+        for flags in 0..8 {
+            let mut m = fresh(2, 1);
+            m.records[0] = marked();
+            m.records[0].nmi = true;
+            m.records[0].pending = set(&[0x41, 0xFE]);
+            m.records[0].pending_level = set(&[0x41]);
+            m.records[0].service = set(service);
+            m.records[0].tpr = tpr;
+            let mut after = m.clone();
+            after.records[0].machine_check = false;
+            after.records[0].flight = Some(Item::MachineCheck);
+            let shown = entry(&mut m, 0, flags & 1 == 1, flags & 2 == 2, flags & 4 == 4);
+            assert_eq!(shown, PRESENTED_MC);
+            assert_eq!(m, after);
+        }
+    }
+}
+
+/// 8.17, 8.6, 8.11: one after the other.
+#[test]
+fn the_order_of_three_items() {
+    let mut m = fresh(2, 1);
+    m.records[0] = marked();
+    m.records[0].nmi = true;
+    m.records[0].pending = set(&[0xFF]);
+    for shown in [PRESENTED_MC, PRESENTED_NMI, presented(0xFF)] {
+        assert_eq!(entry(&mut m, 0, true, false, false), shown);
+    }
+}
+
+/// 5.19, 8.16: the mark stays and is presented once; then bit 9 is lost.
+#[test]
+fn taking_18_out_leaves_the_mark() {
+    let mut m = allowing(&[18]);
+    m.records[0].machine_check = true;
+    assert_eq!(call(&mut m, 0, 4, 0x012, 0), Ok(0));
+    assert!(m.records[0].machine_check);
+    assert_eq!(entry(&mut m, 0, true, false, false), PRESENTED_MC);
+    let mut p = page(&[(3, 1), (65, 0x02)]);
+    assert_eq!(notice(&mut m, 0, &mut p), counted(0, 0));
+    assert_eq!(entry(&mut m, 0, true, false, false), Ok(Shown::Nothing));
+}
+
+/// 7.27: neither with the vector 18, which no Fixed IPI takes, nor as an NMI that has it.
+#[test]
+fn no_guest_sends_a_machine_check() {
+    for kind in 0..8 {
+        for shorthand in 0..4 {
+            let value = 0x1_0000_4012 + kind * 0x100 + shorthand * 0x4_0000;
+            let mut m = fresh(2, 1);
+            let nmi = kind == 4 && (shorthand == 0 || shorthand == 3);
+            let answer = if nmi { Ok(2) } else { Err(BAD_VALUE) };
+            assert_eq!(write(&mut m, 0, 0x830, value), answer, "{value:#x}");
+            assert!(m.records.iter().all(|r| !r.machine_check));
+            assert_eq!(m.records[1].nmi, nmi);
+        }
+    }
+    let mut m = allowing(&[18]);
+    assert_eq!(write(&mut m, 0, 0x83F, 18), Err(BAD_VALUE));
+    assert_eq!(m, allowing(&[18]));
+}
+
+/// 9.9: a newer one that came in between and the returned one are one.
+#[test]
+fn a_machine_check_returned_meets_a_newer_one() {
+    let mut m = allowing(&[18]);
+    m.records[0].machine_check = true;
+    assert_eq!(entry(&mut m, 0, true, false, false), PRESENTED_MC);
+    let mut p = page(&[(3, 1), (65, 0x02)]);
+    assert_eq!(notice(&mut m, 0, &mut p), counted(1, 0));
+    assert_eq!(non_delivery(&mut m, 0), Ok(0));
+    assert_eq!(non_delivery(&mut m, 0), Err(NOTHING_IN_FLIGHT));
+    assert_eq!(entry(&mut m, 0, false, true, true), PRESENTED_MC);
+    assert_eq!(entry(&mut m, 0, true, false, false), Ok(Shown::Nothing));
+}
+
+/// 5.3, 5.4, 8.3, 9.9
+#[test]
+fn what_forgets_a_machine_check_in_flight() {
+    let mut m = fresh(2, 1);
+    m.records[0] = marked();
+    assert_eq!(entry(&mut m, 0, true, false, false), PRESENTED_MC);
+    assert_eq!(call(&mut m, 0, 4, 0x113, 0), Err(BAD_VALUE));
+    assert_eq!(write(&mut m, 0, 0x830, 0x4012), Err(BAD_VALUE));
+    assert_eq!(m.records[0].flight, Some(Item::MachineCheck));
+    let mut by_call = m.clone();
+    assert_eq!(call(&mut by_call, 0, 4, 0x012, 0), Ok(0));
+    let mut by_entry = m.clone();
+    let nothing = entry(&mut by_entry, 0, true, false, false);
+    assert_eq!(nothing, Ok(Shown::Nothing));
+    for mut m in [by_call, by_entry] {
+        assert_eq!(m.records[0].flight, None);
+        assert_eq!(non_delivery(&mut m, 0), Err(NOTHING_IN_FLIGHT));
+        assert!(!m.records[0].machine_check);
+    }
+    assert_eq!(non_delivery(&mut m, 0), Ok(0));
+    assert_eq!(m.records[0], marked());
+}
+
+/// 10.13, 10.17, 13.10: bit 9 is the mark, and everything allowed has 18.
+#[test]
+fn a_handed_back_machine_check_reads_back() {
+    let all_but_18: Vec<usize> = (0..256).filter(|&v| v != 18).collect();
+    for vmpl in 1..=3 {
+        for mark in [false, true] {
+            let mut m = fresh(2, vmpl);
+            m.records[0].machine_check = mark;
+            m.records[0].phase = Phase::Leaving;
+            let mut p = vec![0xFF; 256];
+            assert!(hand_back(&mut m, 0, &mut p, true, false).is_ok());
+            assert!(!m.records[0].machine_check);
+            set_bit(&mut p, 2, 7 + vmpl as usize);
+            let items = admitted(&p, vmpl, &VectorSet::all()).items();
+            let expected = if mark {
+                vec![Item::MachineCheck]
+            } else {
+                vec![]
+            };
+            assert_eq!(items, expected);
+            assert!(admitted(&p, vmpl, &set(&all_but_18)).items().is_empty());
+        }
+    }
+}
+
+/// 12.15, 12.21, 12.22, 13.27: admitted twice, once while pending, and presented and returned once; an
+/// IPI of 18 and bit 9 where 18 is not allowed add nothing.
+#[test]
+fn the_bound_counts_machine_checks() {
+    let notice = |vcpu| Event::Notice {
+        vcpu,
+        page: page(&[(3, 1), (65, 0x02)]),
+    };
+    let call = |vcpu, call, ecx, rdx| Event::Call {
+        vcpu,
+        call,
+        ecx,
+        rdx,
+    };
+    let list = [
+        Event::Start { n: 2, vmpl: 1 },
+        call(0, 4, 0x112, 0),
+        notice(0),
+        notice(0),
+        notice(1),
+        call(1, 3, 0x830, 0x4012),
+        Event::Entry {
+            vcpu: 0,
+            if_set: false,
+            shadow: true,
+            blocked: true,
+        },
+        Event::NonDelivery { vcpu: 0 },
+        call(0, 4, 0x012, 0),
+        notice(0),
+    ];
+    let played = played(&list, step);
+    for (vcpu, item, rest) in [
+        (0, Item::MachineCheck, 2),
+        (1, Item::MachineCheck, 0),
+        (0, Item::Nmi, 0),
+        (0, Item::Vector(18), 0),
+    ] {
+        assert_eq!(remaining(&list, &played, vcpu, item), Ok(rest), "{item:?}");
+    }
 }

@@ -63,7 +63,7 @@ fn registration(registrations: &mut u8, v: &mut Vcpu, ecx: u32) -> Outcome {
 /// 5.15 to 5.20
 fn permission(v: &mut Vcpu, ecx: u32) -> Outcome {
     let vector = ecx as u8;
-    if ecx >= 512 || (vector < 31 && vector != 2) {
+    if ecx >= 512 || !matches!(vector, 2 | 18 | 31..) {
         return BAD;
     }
     let (w, bit) = place(vector);

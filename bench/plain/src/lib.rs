@@ -23,6 +23,7 @@ pub enum Phase {
 pub enum InFlight {
     Nothing,
     Nmi,
+    MachineCheck,
     Vector(u8),
 }
 
@@ -35,6 +36,7 @@ pub struct Vcpu {
     pub irr_level: Set,
     pub isr_level: Set,
     pub nmi: bool,
+    pub machine_check: bool,
     pub tpr: u8,
     pub icr: u64,
     pub phase: Phase,
@@ -83,6 +85,7 @@ pub enum Admission {
 pub enum Presentation {
     Nothing,
     Nmi,
+    MachineCheck,
     Vector(u8),
     Window(u8),
     Refused(Refusal),
@@ -117,6 +120,7 @@ impl Vcpu {
             irr_level: none,
             isr_level: none,
             nmi: false,
+            machine_check: false,
             tpr: 0,
             icr: 0,
             phase,
@@ -167,6 +171,11 @@ pub fn entry(m: &mut Module, vcpu: u32, iflag: bool, shadow: bool, blocked: bool
         return Presentation::Refused(Refusal::NotActive);
     }
     v.flight = InFlight::Nothing;
+    if v.machine_check {
+        v.machine_check = false;
+        v.flight = InFlight::MachineCheck;
+        return Presentation::MachineCheck;
+    }
     if v.nmi && !shadow && !blocked {
         v.nmi = false;
         v.flight = InFlight::Nmi;
@@ -205,6 +214,7 @@ pub fn non_delivery(m: &mut Module, vcpu: u32) -> Outcome {
     }
     match v.flight {
         InFlight::Nothing => return Outcome::Refused(Refusal::NothingInFlight),
+        InFlight::MachineCheck => v.machine_check = true,
         InFlight::Nmi => v.nmi = true,
         InFlight::Vector(vector) => {
             let (w, bit) = place(vector);

@@ -68,6 +68,7 @@ fn presentation(p: Presentation) -> u64 {
     match p {
         Presentation::Nothing => 0,
         Presentation::Nmi => 1,
+        Presentation::MachineCheck => 2,
         Presentation::Vector(v) => 0x100 + u64::from(v),
         Presentation::Window(v) => 0x200 + u64::from(v),
         Presentation::Refused(r) => refused(r),
@@ -92,9 +93,11 @@ fn mix_vcpu(mut digest: u64, v: &Vcpu) -> u64 {
     let flight = match v.flight {
         InFlight::Nothing => 0,
         InFlight::Nmi => 1,
+        InFlight::MachineCheck => 2,
         InFlight::Vector(x) => 0x100 + u64::from(x),
     };
-    for x in [u64::from(v.nmi), u64::from(v.tpr), v.icr, phase, flight] {
+    let marks = 2 * u64::from(v.machine_check) + u64::from(v.nmi);
+    for x in [marks, u64::from(v.tpr), v.icr, phase, flight] {
         digest = mix(digest, x);
     }
     digest

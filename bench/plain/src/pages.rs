@@ -2,8 +2,9 @@
 
 use crate::{highest, place, Admission, Module, Outcome, Phase, Refusal, Set, Vcpu};
 
-/// Bits 8, 10 and 14 of a descriptor, in its byte 1 (4.10, 4.12, 4.13).
+/// Bits 8, 9, 10 and 14 of a descriptor, in its byte 1 (4.10 to 4.13).
 const NMI: u8 = 0x01;
+const MACHINE_CHECK: u8 = 0x02;
 const LEVEL: u8 = 0x04;
 const MANY: u8 = 0x40;
 
@@ -47,9 +48,8 @@ pub fn notice(m: &mut Module, vcpu: u32, page: &mut [u8]) -> Admission {
     d[0] = 0;
     d[1] = flags & KEPT;
     let mut counts = Counts::default();
-    if flags & NMI != 0 && v.allowed[0] & 1 << 2 != 0 {
-        counts.add(v.nmi);
-        v.nmi = true;
+    if flags & (NMI | MACHINE_CHECK) != 0 {
+        admit_marked(v, flags, &mut counts);
     }
     let (w, bit) = place(single);
     let named = single >= 31 && v.allowed[w] & bit != 0;
@@ -83,6 +83,19 @@ impl Counts {
         } else {
             self.new += 1;
         }
+    }
+}
+
+/// 4.16, 4.40. Few notices have either, so one test comes before both.
+#[inline]
+fn admit_marked(v: &mut Vcpu, flags: u8, counts: &mut Counts) {
+    if flags & NMI != 0 && v.allowed[0] & 1 << 2 != 0 {
+        counts.add(v.nmi);
+        v.nmi = true;
+    }
+    if flags & MACHINE_CHECK != 0 && v.allowed[0] & 1 << 18 != 0 {
+        counts.add(v.machine_check);
+        v.machine_check = true;
     }
 }
 
@@ -124,13 +137,14 @@ pub fn hand_back(m: &mut Module, vcpu: u32, page: &mut [u8], iflag: bool, shadow
     v.irr_level = [0; 8];
     v.isr_level = [0; 8];
     v.nmi = false;
+    v.machine_check = false;
     v.phase = Phase::Left;
     Outcome::Done(
         u64::from(m.vmpl) << 16 | u64::from(v.tpr) << 8 | u64::from(shadow) << 1 | u64::from(iflag),
     )
 }
 
-/// 10.4 to 10.11
+/// 10.4 to 10.11, 10.17
 #[inline]
 fn write(v: &Vcpu, d: &mut [u8; 64]) {
     let mut marked = 0;
@@ -144,6 +158,9 @@ fn write(v: &Vcpu, d: &mut [u8; 64]) {
     }
     if v.nmi {
         d[1] |= NMI;
+    }
+    if v.machine_check {
+        d[1] |= MACHINE_CHECK;
     }
     if let Some(vector) = highest(&v.irr_level) {
         d[0] = vector;

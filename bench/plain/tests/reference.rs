@@ -21,6 +21,7 @@ fn record(v: &plain::Vcpu) -> Record {
         pending_level: set(&v.irr_level),
         serving_level: set(&v.isr_level),
         nmi: v.nmi,
+        machine_check: v.machine_check,
         tpr: v.tpr,
         icr: v.icr,
         phase: match v.phase {
@@ -30,6 +31,7 @@ fn record(v: &plain::Vcpu) -> Record {
         },
         flight: match v.flight {
             InFlight::Nothing => None,
+            InFlight::MachineCheck => Some(Item::MachineCheck),
             InFlight::Nmi => Some(Item::Nmi),
             InFlight::Vector(x) => Some(Item::Vector(x.into())),
         },
@@ -66,6 +68,7 @@ fn counted(a: plain::Admission) -> Result<Admission, u32> {
 fn shown(p: Presentation) -> Result<Shown, u32> {
     match p {
         Presentation::Nothing => Ok(Shown::Nothing),
+        Presentation::MachineCheck => Ok(Shown::Presented(Item::MachineCheck)),
         Presentation::Nmi => Ok(Shown::Presented(Item::Nmi)),
         Presentation::Vector(v) => Ok(Shown::Presented(Item::Vector(v.into()))),
         Presentation::Window(v) => Ok(Shown::Window(v.into())),

@@ -112,6 +112,21 @@ fn icr_rules() {
     }
 }
 
+/// 5.17: every vector, with ECX bit 8 and without, and with bit 9.
+#[test]
+fn what_call_4_takes() {
+    for ecx in 0..1024 {
+        let vector = ecx % 256;
+        let taken = ecx < 512 && ([2, 18].contains(&vector) || vector > 30);
+        let answer = if taken { Ok(0) } else { Err(BAD_VALUE) };
+        let mut m = fresh(2, 1);
+        assert_eq!(call(&mut m, 0, 4, ecx, 0), answer, "{ecx:#x}");
+        let allowed = m.records[0].allowed.members();
+        let put = taken && ecx >= 256;
+        assert_eq!(allowed, vec![vector as usize; usize::from(put)]);
+    }
+}
+
 /// 11.12 to 11.17, 11.19
 #[test]
 fn the_order_of_the_checks() {

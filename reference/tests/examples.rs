@@ -43,7 +43,8 @@ fn the_examples_show_everything() {
     assert!(coverage.complete(), "{}", coverage.report());
 }
 
-/// And every way in which a request meets what is pending, in service or in flight.
+/// And every way in which a request meets what is pending, in service or in flight, and all that can
+/// become of a machine check.
 #[test]
 fn the_examples_merge_in_every_way() {
     let traces: Vec<u8> = stored()

@@ -302,11 +302,18 @@ fn machine_check_always_new(m: &mut Module, event: &mut Event) -> Answer {
     })
 }
 
+/// The bound is of machine checks as well.
+#[test]
+fn a_machine_check_presented_twice_is_found() {
+    let verdict = check(1, 20_000, machine_check_twice).unwrap_err();
+    let fault = "MachineCheck presented too often";
+    assert!(verdict.contains(fault), "{verdict}");
+}
+
 #[test]
 fn wrong_gates_are_found() {
     assert!(fails(untested_vector));
     assert!(fails(unasked_machine_check));
-    assert!(fails(machine_check_twice));
     assert!(fails(returned_as_nmi));
     assert!(fails(invented_number));
     assert!(fails(presented_twice));

@@ -266,6 +266,7 @@ impl Generator {
             let page = self.page_again(vcpu, page);
             self.at_once(Event::Notice { vcpu, page });
         }
+        // Where more is decided on, the vCPU may be about to leave with it.
         let free = self.queue.is_empty();
         if free && self.module.record(vcpu).machine_check && self.random.chance(60) {
             self.with_machine_check(vcpu);

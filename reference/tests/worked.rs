@@ -1,4 +1,4 @@
-//! The cases worked here (14.21 to 14.44, 14.46 to 14.68), on an implementation that was written apart from the definitions.
+//! The cases worked here (14.21 to 14.44, 14.46 to 14.70), on an implementation that was written apart from the definitions.
 
 mod common;
 
@@ -574,6 +574,10 @@ fn a_machine_check_that_is_not_allowed() {
     assert_eq!(notice(&mut m, 0, &mut p), counted(0, 0));
     assert_eq!(p, page(&[]));
     assert_eq!(m, allowing(&all_but_18));
+    let all: Vec<usize> = (0..256).collect();
+    let mut m = allowing(&all);
+    assert_eq!(notice(&mut m, 0, &mut page(&[(65, 0x02)])), counted(0, 0));
+    assert_eq!(m, allowing(&all));
 }
 
 /// 14.61
@@ -621,9 +625,19 @@ fn nothing_holds_a_machine_check_back() {
     assert_eq!(entry(&mut m, 0, false, true, true), Ok(MACHINE_CHECK));
     assert_eq!(m, after);
     assert_eq!(
-        entry(&mut m, 0, false, false, false),
+        entry(&mut m, 0, true, false, false),
         Ok(Shown::Presented(Item::Nmi))
     );
+    assert_eq!(
+        entry(&mut both_marks(), 0, true, false, false),
+        Ok(MACHINE_CHECK)
+    );
+    let mut m = fresh(2, 1);
+    m.records[0] = pending(&[0x41], false);
+    m.records[0].machine_check = true;
+    for shown in [MACHINE_CHECK, presented(0x41)] {
+        assert_eq!(entry(&mut m, 0, true, false, false), Ok(shown));
+    }
 }
 
 /// 14.64
@@ -673,25 +687,34 @@ fn call_4_takes_18() {
         assert_eq!(call(&mut m, 0, 4, ecx, 0), Err(BAD_VALUE), "{ecx:#x}");
         assert_eq!(m, allowing(&[18]));
     }
-    m.records[0].machine_check = true;
     assert_eq!(call(&mut m, 0, 4, 0x012, 0), Ok(0));
-    assert_eq!(m.records[0].allowed, set(&[]));
-    assert_eq!(entry(&mut m, 0, true, false, false), Ok(MACHINE_CHECK));
+    assert_eq!(m, fresh(2, 1));
 }
 
 /// 14.67
 #[test]
-fn no_ipi_sends_a_machine_check() {
-    let mut m = fresh(2, 1);
-    for (register, value) in [(ICR, 0x4012), (SELF_IPI, 18)] {
-        assert_eq!(write(&mut m, 0, register, value), Err(BAD_VALUE));
-        assert_eq!(m, fresh(2, 1));
-    }
-    assert_eq!(write(&mut m, 0, ICR, 0xFFFF_FFFF_0000_4400), Ok(3));
-    assert!(m.records.iter().all(|r| r.nmi && !r.machine_check));
+fn a_pending_machine_check_outlives_its_permission() {
+    let mut m = allowing(&[18]);
+    let mut p = page(&[(3, 1), (65, 0x02)]);
+    assert_eq!(notice(&mut m, 0, &mut p), counted(1, 0));
+    assert_eq!(call(&mut m, 0, 4, 0x012, 0), Ok(0));
+    assert_eq!(m.records[0].allowed, set(&[]));
+    assert_eq!(entry(&mut m, 0, false, true, true), Ok(MACHINE_CHECK));
 }
 
 /// 14.68
+#[test]
+fn no_ipi_sends_a_machine_check() {
+    let mut m = fresh(2, 1);
+    for (register, value) in [(ICR, 0x4012), (ICR, 0x44012), (SELF_IPI, 18)] {
+        assert_eq!(write(&mut m, 0, register, value), Err(BAD_VALUE));
+        assert_eq!(m, fresh(2, 1));
+    }
+    assert_eq!(write(&mut m, 0, ICR, 0xC4400), Ok(2));
+    assert!(m.records[1].nmi && !m.records[1].machine_check);
+}
+
+/// 14.69
 #[test]
 fn registers_do_not_know_the_machine_check() {
     let mut m = fresh(2, 1);
@@ -709,4 +732,25 @@ fn registers_do_not_know_the_machine_check() {
     }
     assert_eq!(write(&mut m, 0, EOI, 0), Ok(0));
     assert_eq!(m, fresh(2, 1));
+}
+
+/// 14.70, the tallies apart
+#[test]
+fn a_worked_list_of_machine_checks() {
+    let mut m = fresh(1, 1);
+    let check = |m: &mut Module| notice(m, 0, &mut page(&[(3, 1), (65, 0x02)]));
+    assert_eq!(call(&mut m, 0, 4, 0x112, 0), Ok(0));
+    assert_eq!(check(&mut m), counted(1, 0));
+    assert_eq!(check(&mut m), counted(0, 1));
+    assert_eq!(entry(&mut m, 0, false, true, true), Ok(MACHINE_CHECK));
+    assert_eq!(non_delivery(&mut m, 0), Ok(0));
+    assert_eq!(entry(&mut m, 0, false, true, true), Ok(MACHINE_CHECK));
+    assert_eq!(check(&mut m), counted(1, 0));
+    assert_eq!(call(&mut m, 0, 4, 0x012, 0), Ok(0));
+    assert_eq!(check(&mut m), counted(0, 0));
+    assert_eq!(write(&mut m, 0, SELF_IPI, 0x41), Ok(1));
+    assert_eq!(call(&mut m, 0, 1, DEREGISTER, 0), Ok(0));
+    let mut p = page(&[]);
+    assert_eq!(hand_back(&mut m, 0, &mut p, false, true), Ok(65_538));
+    assert_eq!(p, page(&[(65, 0x42), (72, 0x02)]));
 }

@@ -42,6 +42,7 @@ fn put_presentation(out: &mut Chunk, sink: Sink, p: Presentation) -> Sink {
     match p {
         Presentation::Nothing => put(out, sink, b" nothing"),
         Presentation::Nmi => put(out, sink, b" nmi"),
+        Presentation::MachineCheck => put(out, sink, b" mc"),
         Presentation::Vector(v) => put_hex(out, sink, b" vector ", v as u64),
         Presentation::Window(v) => put_hex(out, sink, b" window ", v as u64),
         Presentation::Refused(r) => put_hex(out, sink, b" refused ", gate::code(r) as u64),
@@ -124,6 +125,7 @@ fn put_flight(out: &mut Chunk, sink: Sink, f: InFlight) -> Sink {
     match f {
         InFlight::Nothing => put(out, sink, b" flight=nothing"),
         InFlight::Nmi => put(out, sink, b" flight=nmi"),
+        InFlight::MachineCheck => put(out, sink, b" flight=mc"),
         InFlight::Vector(v) => put_hex(out, sink, b" flight=", v as u64),
     }
 }
@@ -151,6 +153,7 @@ fn put_vcpu(out: &mut Chunk, sink: Sink, i: u32, v: Vcpu) -> Sink {
     let sink = put_hex(out, sink, b" tpr=", v.tpr as u64);
     let sink = put_hex(out, sink, b" icr=", v.icr);
     let sink = put_sets(out, sink, v);
+    let sink = put_hex(out, sink, b" mc=", v.machine_check as u64);
     put_byte(out, sink, b'\n')
 }
 

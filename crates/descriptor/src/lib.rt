@@ -1,28 +1,33 @@
 // The descriptor: what its 32 bytes ask for and admit. Its marks are read apart, since most descriptors have none.
 ghost use mathlib.Core.Path.{_≡_};
-ghost use mathlib.Core.Bool.{true, cond, _&&_};
+ghost use mathlib.Core.Bool.{true, cond, not, _&&_};
 ghost use Prim.Native.Nat.{_+_, _*_, _≤_, _<_};
+ghost use lib.Bits.{bitAnd};
+ghost use lib.Dec.{eqb};
 ghost use lib.ListN.{length, getD};
 ghost use Rattle.vector_set.specs.Bits.{bits};
 ghost use Rattle.vector_set.specs.Sets.{has, collect};
-ghost use Rattle.model.specs.Doorbell.{bitOf, manyBit, isVector, admitsNmi, admitsEdge};
+ghost use Rattle.model.specs.Doorbell.{bitOf, manyBit, isVector, admitsEdge};
 ghost use Rattle.descriptor.specs.Requests.{singleBit, requestedIn};
 use ipi::Posting;
+use model::MACHINE_CHECK_VECTOR;
 use model::NMI_VECTOR;
 use vector_set::LOWEST;
 
 // The bytes of a descriptor, and of a set.
 pub const DESCRIPTOR_BYTES: usize = 32;
 
-// Bits 8, 10 and 14 of a descriptor, as bits of its byte 1 (4.8, 4.10, 4.12, 4.13).
+// Bits 8, 9, 10 and 14 of a descriptor, as bits of its byte 1 (4.8, 4.10 to 4.13).
 pub const NMI: u8 = 0x01;
+
+pub const MACHINE_CHECK: u8 = 0x02;
 
 pub const LEVEL: u8 = 0x04;
 
 pub const MANY: u8 = 0x40;
 
-// What a descriptor asks for beside its marks: the NMI and the vector in bits 7:0, as far as they are admitted; the vector's bit again where it is
-// level-sensitive; bit 14, with which the marks count.
+// What a descriptor asks for beside its marks: the NMI, the machine check and the vector in bits 7:0, as far as they are admitted; the vector's bit
+// again where it is level-sensitive; bit 14, with which the marks count.
 pub struct Requested {
     pub posting: Posting,
     pub level: u32,
@@ -63,12 +68,11 @@ fn marks(d: &[u8]) -> [u32; 8]
     ]
 }
 
-// The NMI is admitted (4.16).
-fn nmi_of(d: &[u8], allowed: [u32; 8]) -> bool
-    requires { ⌜ length (now d) ≡ 32 ⌝ }
-    ensures { λ r. ⌜ r ≡ admitsNmi allowed (now (d .entry)) ⌝ }
+// An item with a bit of byte 1 is admitted: the vector stands for it in the allowed set (4.16, 4.40).
+fn is_admitted(flags: u8, bit: u8, allowed: [u32; 8], vector: u8) -> bool
+    ensures { λ r. ⌜ r ≡ (not (eqb (bitAnd flags bit) 0) && has allowed vector) ⌝ }
 {
-    d[1] & NMI != 0 && vector_set::contains(allowed, NMI_VECTOR)
+    flags & bit != 0 && vector_set::contains(allowed, vector)
 }
 
 // A vector that a notice may name, in the allowed set (4.13, 4.22, 4.23).
@@ -94,14 +98,15 @@ fn single_of(allowed: [u32; 8], vector: u8) -> u32
     only(may_name(allowed, vector), 1 << (vector % 32) as u32)
 }
 
-// What the descriptor asks for beside its marks (4.16, 4.17, 4.19, 4.21 to 4.24).
+// What the descriptor asks for beside its marks (4.16, 4.17, 4.19, 4.21 to 4.24, 4.40, 4.41).
 pub fn read_request(d: &[u8], allowed: [u32; 8]) -> Requested
     requires { ⌜ length (now d) ≡ 32 ⌝ }
     ensures { λ r. ⌜ (r ≡ requestedIn allowed (now (d .entry))) × (r .posting .word < 8) ⌝ }
 {
-    let nmi = nmi_of(d, allowed);
     let vector = d[0];
     let flags = d[1];
+    let nmi = is_admitted(flags, NMI, allowed, NMI_VECTOR);
+    let machine_check = is_admitted(flags, MACHINE_CHECK, allowed, MACHINE_CHECK_VECTOR);
     let single = single_of(allowed, vector);
     let level = only(flags & LEVEL != 0, single);
     let word = (vector / 32) as usize;
@@ -109,6 +114,7 @@ pub fn read_request(d: &[u8], allowed: [u32; 8]) -> Requested
         return Requested {
             posting: Posting {
                 nmi,
+                machine_check,
                 word,
                 bits: level,
             },
@@ -119,6 +125,7 @@ pub fn read_request(d: &[u8], allowed: [u32; 8]) -> Requested
     Requested {
         posting: Posting {
             nmi,
+            machine_check,
             word,
             bits: single,
         },

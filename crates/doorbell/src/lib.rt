@@ -40,6 +40,7 @@ pub fn nothing() -> Requested
     Requested {
         posting: Posting {
             nmi: false,
+            machine_check: false,
             word: 0,
             bits: 0,
         },

@@ -4,7 +4,8 @@
 --     SetField                one of its sets: irr, irr-level.        machS     a set's machine value, and what is said of it (field-set, set-typed)
 --     set-of                  the address of a set
 --     word-on, nmi-on, part-on        of the record in hand, word w of a set, the NMI mark and any field are read
---     puts-word, puts-nmi, puts-irr   a word, the mark and the set irr are written
+--     MarkField               one of its marks: nmi-mark, check-mark
+--     puts-word, puts-mark, puts-irr   a word, a mark and the set irr are written
 -- Assumes `Given`.
 use mathlib.Core.Path.{_≡_, refl, sym, ap, _∙_, subst}
 use Prim.Native.Nat.{ℕ, zero, _+_, _*_, _<_, _^_}
@@ -38,7 +39,7 @@ use denote.Index.{place, place-is, others, takes, puts, row}
 use denote.Struct.Laws as LL
 use borrow.Struct.Behind.{put-at}
 use borrow.Struct.Items.{cut-array}
-use Rattle.model.specs.State.{vcpuAt, withVcpu, withIrr, withIrrLevel, withNmi}
+use Rattle.model.specs.State.{vcpuAt, withVcpu, withIrr, withIrrLevel, withNmi, withMachineCheck}
 use Rattle.model.specs.declared.Module.{Module}
 use Rattle.model.specs.declared.Vcpu.{Vcpu}
 use Rattle.model.proofs.Module as T
@@ -222,12 +223,33 @@ module _ {M : Type 1} (𝓤 : URA M) (H : Heap 𝓤) (A : Atoms 𝓤) (W : Given
           (ap (λ (xs : List ℕ). withVcpu h i (S .put xs v)) (set-getD (S .get v) w 0) ∙ ap (withVcpu h i) (S .same v) ∙ put-same h i) (word-put x)
 
 -- a record with another mark fits its type
-nmi-fits : (y : Bool) (v : Vcpu) → Is R.the-row v (machV v ∷ []) → Is R.the-row (withNmi y v) (machV (withNmi y v) ∷ [])
+pub nmi-fits : (y : Bool) (v : Vcpu) → Is R.the-row v (machV v ∷ []) → Is R.the-row (withNmi y v) (machV (withNmi y v) ∷ [])
 nmi-fits y v is =
     let f = LL.owed R.the-type R′.the-laws v _ is in
     LL.owes R.the-type R′.the-laws (withNmi y v) (f .0, (f .1 .0, (f .1 .1 .0, (f .1 .1 .1 .0, (f .1 .1 .1 .1 .0, (refl, f .1 .1 .1 .1 .1 .1))))))
 
--- and so does one with another set irr
+pub check-fits : (y : Bool) (v : Vcpu) → Is R.the-row v (machV v ∷ []) → Is R.the-row (withMachineCheck y v) (machV (withMachineCheck y v) ∷ [])
+check-fits y v is =
+    let f = LL.owed R.the-type R′.the-laws v _ is in
+    LL.owes R.the-type R′.the-laws (withMachineCheck y v)
+    (f .0, (f .1 .0, (f .1 .1 .0, (f .1 .1 .1 .0, (f .1 .1 .1 .1 .0, (f .1 .1 .1 .1 .1 .0, (refl, f .1 .1 .1 .1 .1 .1 .1)))))))
+
+-- a mark of a record: field k, d bytes in
+pub record MarkField : Type 0 where
+  pub k : ℕ
+  pub d : ℕ
+  pub at : fieldOf R′.mir k ≡ full (tyBool, d)
+  pub put : Bool → Vcpu → Vcpu
+  pub stored : (y : Bool) (v : Vcpu) → vstruct (setV (inner (machV v)) k (vbool y)) ≡ machV (put y v)
+  pub fits : (y : Bool) (v : Vcpu) → Is R.the-row v (machV v ∷ []) → Is R.the-row (put y v) (machV (put y v) ∷ [])
+
+abbrev pub nmi-mark : MarkField
+nmi-mark = record { k = 5; d = 160; at = refl; put = withNmi; stored = λ y v. refl; fits = nmi-fits }
+
+abbrev pub check-mark : MarkField
+check-mark = record { k = 6; d = 161; at = refl; put = withMachineCheck; stored = λ y v. refl; fits = check-fits }
+
+-- so does a record with another set irr
 irr-fits : (ys : List ℕ) → Is (Array u32 8) ys (machS ys ∷ []) → (v : Vcpu) → Is R.the-row v (machV v ∷ [])
     → Is R.the-row (withIrr ys v) (machV (withIrr ys v) ∷ [])
 irr-fits ys ys-is v is =
@@ -311,17 +333,18 @@ module _ {M : Type 1} {𝓤 : URA M} {H : Heap 𝓤} {A : Atoms 𝓤} {K : Type 
           (tyInt w32) b (w * 4 + (spot o i + S .d)) (vint w32 (getD (S .get (vcpuAt g i)) w 0)) (vint w32 y) (tt, record { fits = fits })
           (word-put 𝓤 H A W g b o i within S w in-set y)))
 
-      pub puts-nmi : (y : Bool) → Rv K W (hand h b o i u ∷ Γ) E rv (vbool y) → Points K W (hand h b o i u ∷ Γ) E j b (spot o i)
-          → Step K W (hand h b o i (withNmi y u) ∷ Γ) (runs C Λ E next q)
-          (hand h b o i u ∷ Γ) (runs C Λ E (seq (assign (at j (deref R′.mir ∷ field 5 ∷ [])) rv) next) q)
-      puts-nmi y rv r =
+      pub puts-mark : (F : MarkField) (y : Bool) → Rv K W (hand h b o i u ∷ Γ) E rv (vbool y) → Points K W (hand h b o i u ∷ Γ) E j b (spot o i)
+          → Step K W (hand h b o i (F .put y u) ∷ Γ) (runs C Λ E next q)
+          (hand h b o i u ∷ Γ) (runs C Λ E (seq (assign (at j (deref R′.mir ∷ field (F .k) ∷ [])) rv) next) q)
+      puts-mark F y rv r =
           let g : Module = withVcpu h i u in
-          again-on h b o i l u (withNmi y)
-          (assigns t rv (from t (hop t r (fld t refl (stop t))))
-          (within-changes t (partAt T.the-row fullShare g b o) (partAt T.the-row fullShare (withVcpu g i (withNmi y (vcpuAt g i))) b o) tyBool b
-          (spot o i + 160)
-          (vbool (vcpuAt g i .nmi)) (vbool y) (tt, tt)
-          (part-put 𝓤 H A W g b o i within 5 tyBool 160 refl (vbool y) (withNmi y (vcpuAt g i)) refl (nmi-fits y (vcpuAt g i)))))
+          again-on h b o i l u (F .put y)
+          (assigns t rv (from t (hop t r (fld t (F .at) (stop t))))
+          (within-changes t (partAt T.the-row fullShare g b o) (partAt T.the-row fullShare (withVcpu g i (F .put y (vcpuAt g i))) b o) tyBool b
+          (spot o i + F .d)
+          (getV (inner (machV (vcpuAt g i))) (F .k)) (vbool y) (tt, tt)
+          (part-put 𝓤 H A W g b o i within (F .k) tyBool (F .d) (F .at) (vbool y) (F .put y (vcpuAt g i)) (F .stored y (vcpuAt g i))
+          (F .fits y (vcpuAt g i)))))
 
       pub puts-irr : (ys : List ℕ) → Is (Array u32 8) ys (machS ys ∷ []) → Rv K W (hand h b o i u ∷ Γ) E rv (machS ys)
           → Points K W (hand h b o i u ∷ Γ) E j b (spot o i)

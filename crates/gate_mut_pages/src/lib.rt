@@ -14,8 +14,8 @@ use vcpu_pages::hand_backs::hand_over;
 use vcpu_pages::notices::take;
 use vector_set_algebra::union;
 
-// A host notice (section 4; 13.33). The page after it has what was taken cleared. A word of P and of PL and the mark are stored, and P as a
-// whole where marks are taken.
+// A host notice (section 4; 13.33). The page after it has what was taken cleared. A word of P and of PL and the marks of the NMI and the machine
+// check are stored, and P as a whole where marked vectors are taken.
 pub fn notice_in(m: &mut Module, vcpu: u32, page: &mut [u8]) -> Admission
     ensures { λ r. ⌜ noticedOut (record { admission = r; after = now (m .exit) })
         (now (page .exit)) ≡ step (now (m .entry)) (at vcpu (Act.notice (now (page .entry)))) ⌝ }
@@ -34,15 +34,16 @@ pub fn notice_in(m: &mut Module, vcpu: u32, page: &mut [u8]) -> Admission
     let w = posting.word;
     let before = m.vcpus[i].irr[w];
     m.vcpus[i].irr[w] = m.vcpus[i].irr[w] | posting.bits;
-    m.vcpus[i].nmi = m.vcpus[i].nmi | posting.nmi;
     m.vcpus[i].irr_level[w] = m.vcpus[i].irr_level[w] | taken.requested.level;
+    m.vcpus[i].nmi = v.nmi | posting.nmi;
+    m.vcpus[i].machine_check = v.machine_check | posting.machine_check;
     if !taken.requested.many {
-        let c = counts_of(posting, before, v.nmi);
+        let c = counts_of(posting, before, v.nmi, v.machine_check);
         return Admission::Items(c.new, c.merged);
     }
     let edge = take_marks(page, m.vmpl, v.allowed, taken.requested);
     let irr = m.vcpus[i].irr;
-    let c = count_marks(posting, before, v.nmi, edge, irr);
+    let c = count_marks(posting, before, v.nmi, v.machine_check, edge, irr);
     m.vcpus[i].irr = union(irr, edge);
     Admission::Items(c.new, c.merged)
 }

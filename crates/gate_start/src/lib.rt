@@ -24,6 +24,7 @@ fn bare(phase: Phase) -> Vcpu
         irr_level: none,
         isr_level: none,
         nmi: false,
+        machine_check: false,
         tpr: 0,
         icr: 0,
         phase,

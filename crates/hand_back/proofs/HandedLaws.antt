@@ -102,7 +102,7 @@ pub serving-of : (s t : List ℕ) {d e w : List ℕ} → d ≡ difference s t �
 serving-of s t a b c = c ∙ ap (λ (e : List ℕ). bytesFrom (has e) 0 32) (b ∙ ap (from 31) a) ∙ serving-bytes s t
 
 -- ---- the descriptor of what is pending
-tail : (b : Bool) → b ≡ (b || false || false || false || false)
+tail : (b : Bool) → b ≡ (b || false || false || false || false || false)
 tail true = refl
 tail false = refl
 
@@ -113,20 +113,30 @@ highest-small s = go (highest s) refl
     go none e = omega arith
     go (some v) e = highest-has s v e .1
 
-abbrev FlagBit : Bool → Bool → Bool → ℕ → Type 0
-FlagBit x y z b = bitAt (one x + 4 * one y + 64 * one z) b ≡ (eqb (8 * 1 + b) 8 && x || eqb (8 * 1 + b) 10 && y || eqb (8 * 1 + b) 14 && z)
+abbrev FlagBit : Bool → Bool → Bool → Bool → ℕ → Type 0
+FlagBit x c y z b =
+    bitAt (one x + 2 * one c + 4 * one y + 64 * one z) b
+    ≡ (eqb (8 * 1 + b) 8 && x || eqb (8 * 1 + b) 9 && c || eqb (8 * 1 + b) 10 && y || eqb (8 * 1 + b) 14 && z)
 
-flags-bit : (x y z : Bool) (b : ℕ) → b < 8 → FlagBit x y z b
-flags-bit true true true = each8 (FlagBit true true true) refl refl refl refl refl refl refl refl
-flags-bit true true false = each8 (FlagBit true true false) refl refl refl refl refl refl refl refl
-flags-bit true false true = each8 (FlagBit true false true) refl refl refl refl refl refl refl refl
-flags-bit true false false = each8 (FlagBit true false false) refl refl refl refl refl refl refl refl
-flags-bit false true true = each8 (FlagBit false true true) refl refl refl refl refl refl refl refl
-flags-bit false true false = each8 (FlagBit false true false) refl refl refl refl refl refl refl refl
-flags-bit false false true = each8 (FlagBit false false true) refl refl refl refl refl refl refl refl
-flags-bit false false false = each8 (FlagBit false false false) refl refl refl refl refl refl refl refl
+flags-bit : (x c y z : Bool) (b : ℕ) → b < 8 → FlagBit x c y z b
+flags-bit true true true true = each8 (FlagBit true true true true) refl refl refl refl refl refl refl refl
+flags-bit true true true false = each8 (FlagBit true true true false) refl refl refl refl refl refl refl refl
+flags-bit true true false true = each8 (FlagBit true true false true) refl refl refl refl refl refl refl refl
+flags-bit true true false false = each8 (FlagBit true true false false) refl refl refl refl refl refl refl refl
+flags-bit true false true true = each8 (FlagBit true false true true) refl refl refl refl refl refl refl refl
+flags-bit true false true false = each8 (FlagBit true false true false) refl refl refl refl refl refl refl refl
+flags-bit true false false true = each8 (FlagBit true false false true) refl refl refl refl refl refl refl refl
+flags-bit true false false false = each8 (FlagBit true false false false) refl refl refl refl refl refl refl refl
+flags-bit false true true true = each8 (FlagBit false true true true) refl refl refl refl refl refl refl refl
+flags-bit false true true false = each8 (FlagBit false true true false) refl refl refl refl refl refl refl refl
+flags-bit false true false true = each8 (FlagBit false true false true) refl refl refl refl refl refl refl refl
+flags-bit false true false false = each8 (FlagBit false true false false) refl refl refl refl refl refl refl refl
+flags-bit false false true true = each8 (FlagBit false false true true) refl refl refl refl refl refl refl refl
+flags-bit false false true false = each8 (FlagBit false false true false) refl refl refl refl refl refl refl refl
+flags-bit false false false true = each8 (FlagBit false false false true) refl refl refl refl refl refl refl refl
+flags-bit false false false false = each8 (FlagBit false false false false) refl refl refl refl refl refl refl refl
 
-module _ (irr level : List ℕ) (nmi : Bool) where
+module _ (irr level : List ℕ) (nmi mc : Bool) where
   abbrev top : ℕ
   top = Option·getD (highest level) 0
 
@@ -134,26 +144,27 @@ module _ (irr level : List ℕ) (nmi : Bool) where
   edge = from 31 (difference irr level)
 
   abbrev flags : ℕ
-  flags = one nmi + 4 * one (not (isEmpty level)) + 64 * one (not (isEmpty edge))
+  flags = one nmi + 2 * one mc + 4 * one (not (isEmpty level)) + 64 * one (not (isEmpty edge))
 
-  byte-0 : (b : ℕ) → b < 8 → bitAt top b ≡ handedBit irr level nmi (8 * 0 + b)
+  byte-0 : (b : ℕ) → b < 8 → bitAt top b ≡ handedBit irr level nmi mc (8 * 0 + b)
   unfolding handedBit
   byte-0 =
-      each8 (λ b. bitAt top b ≡ handedBit irr level nmi (8 * 0 + b)) (tail (bitAt top 0)) (tail (bitAt top 1)) (tail (bitAt top 2)) (tail (bitAt top 3))
+      each8 (λ b. bitAt top b ≡ handedBit irr level nmi mc (8 * 0 + b)) (tail (bitAt top 0)) (tail (bitAt top 1)) (tail (bitAt top 2)) (tail (bitAt top 3))
       (tail (bitAt top 4)) (tail (bitAt top 5)) (tail (bitAt top 6)) (tail (bitAt top 7))
 
-  byte-1 : (b : ℕ) → b < 8 → bitAt flags b ≡ handedBit irr level nmi (8 * 1 + b)
+  byte-1 : (b : ℕ) → b < 8 → bitAt flags b ≡ handedBit irr level nmi mc (8 * 1 + b)
   unfolding handedBit
   byte-1 b h =
       rw (lt-leb (8 * 1 + b) 7 (omega arith), lt-leb 31 (8 * 1 + b) (omega arith), ← edge-set irr level)
-      (flags-bit nmi (not (isEmpty level)) (not (isEmpty edge)) b h ∙ sym (or-false _))
+      (flags-bit nmi mc (not (isEmpty level)) (not (isEmpty edge)) b h ∙ sym (or-false _))
 
-  byte-j : (j b : ℕ) → 1 < j → j < 32 → b < 8 → has edge (8 * j + b) ≡ handedBit irr level nmi (8 * j + b)
+  byte-j : (j b : ℕ) → 1 < j → j < 32 → b < 8 → has edge (8 * j + b) ≡ handedBit irr level nmi mc (8 * j + b)
   unfolding handedBit
   byte-j j b h l r =
       rw (
         lt-leb (8 * j + b) 7 (omega arith),
         ne-eqb (8 * j + b) 8 (λ (q : 8 * j + b ≡ 8). omega arith),
+        ne-eqb (8 * j + b) 9 (λ (q : 8 * j + b ≡ 9). omega arith),
         ne-eqb (8 * j + b) 10 (λ (q : 8 * j + b ≡ 10). omega arith),
         ne-eqb (8 * j + b) 14 (λ (q : 8 * j + b ≡ 14). omega arith),
       )
@@ -165,7 +176,7 @@ module _ (irr level : List ℕ) (nmi : Bool) where
   -- byte j is x, whose bits are those of the definition
   record Byte (j x : ℕ) : Type 0 where
     small : x < 256
-    bit : (b : ℕ) → b < 8 → bitAt x b ≡ handedBit irr level nmi (8 * j + b)
+    bit : (b : ℕ) → b < 8 → bitAt x b ≡ handedBit irr level nmi mc (8 * j + b)
 
   byte : (j : ℕ) → j < 32 → Byte j (getD stored j 0)
   byte j l =
@@ -180,7 +191,7 @@ module _ (irr level : List ℕ) (nmi : Bool) where
       (record { small = highest-small level; bit = byte-0 }))
       (⊎-elim
       (λ (e : j ≡ 1). rw (e, getD-set-same (set (bytesFrom (has edge) 0 32) 0 top) 1 flags 0 (simp length-set (omega (arith, m .long))))
-      (record { small = omega (arith, one-le nmi, one-le (not (isEmpty level)), one-le (not (isEmpty edge))); bit = byte-1 }))
+      (record { small = omega (arith, one-le nmi, one-le mc, one-le (not (isEmpty level)), one-le (not (isEmpty edge))); bit = byte-1 }))
       (λ (h : 1 < j). rw (
         getD-set-other (set (bytesFrom (has edge) 0 32) 0 top) 1 j flags 0 (λ (q : j ≡ 1). omega arith),
         getD-set-other (bytesFrom (has edge) 0 32) 0 j top 0 (λ (q : j ≡ 0). omega arith),
@@ -188,9 +199,9 @@ module _ (irr level : List ℕ) (nmi : Bool) where
       (record { small = m .small j l; bit = λ b r. m .bit j l b r ∙ byte-j j b h l r })))
       (place j 1)
 
-  pub pending-bytes : stored ≡ bytesFrom (handedBit irr level nmi) 0 32
+  pub pending-bytes : stored ≡ bytesFrom (handedBit irr level nmi mc) 0 32
   pending-bytes =
-      is-made (handedBit irr level nmi) 32 stored
+      is-made (handedBit irr level nmi mc) 32 stored
       (record {
         long = simp length-set (bytesFrom-length (has edge) 0 32);
         small = λ j l. byte j l .small;
@@ -199,8 +210,8 @@ module _ (irr level : List ℕ) (nmi : Bool) where
 
   -- as code makes them
   pub pending-of : {d e w : List ℕ} {x y : ℕ} {p q : Bool} → d ≡ difference irr level → e ≡ from 31 d → w ≡ bytesFrom (has e) 0 32
-      → x ≡ Option·getD (highest level) 0 → p ≡ isEmpty level → q ≡ isEmpty e → y ≡ one nmi + 4 * one (not p) + 64 * one (not q)
-      → set (set w 0 x) 1 y ≡ bytesFrom (handedBit irr level nmi) 0 32
+      → x ≡ Option·getD (highest level) 0 → p ≡ isEmpty level → q ≡ isEmpty e → y ≡ one nmi + 2 * one mc + 4 * one (not p) + 64 * one (not q)
+      → set (set w 0 x) 1 y ≡ bytesFrom (handedBit irr level nmi mc) 0 32
   pending-of a b c f g h k = cc (pending-bytes)
 
 -- ---- two halves written one after the other, and the bytes back in the page

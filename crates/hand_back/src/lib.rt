@@ -8,6 +8,7 @@ ghost use Rattle.vector_set.specs.Sets.{has, highest};
 ghost use Rattle.model.specs.Doorbell.{bytesFrom, handedBit, handedBytes, written};
 use descriptor::DESCRIPTOR_BYTES;
 use descriptor::LEVEL;
+use descriptor::MACHINE_CHECK;
 use descriptor::MANY;
 use descriptor::NMI;
 use doorbell::VMPL_BYTES;
@@ -45,22 +46,23 @@ fn flag(b: bool, mask: u8) -> u8
     if b { mask } else { 0 }
 }
 
-// Bits 8 to 15 of the descriptor (10.5, 10.6, 10.8).
-fn flags(nmi: bool, level: bool, many: bool) -> u8
-    ensures { λ r. ⌜ r ≡ one nmi + 4 * one level + 64 * one many ⌝ }
+// Bits 8 to 15 of the descriptor (10.5, 10.6, 10.8, 10.17).
+fn flags(nmi: bool, machine_check: bool, level: bool, many: bool) -> u8
+    ensures { λ r. ⌜ r ≡ one nmi + 2 * one «machine_check» + 4 * one level + 64 * one many ⌝ }
 {
-    flag(nmi, NMI) + flag(level, LEVEL) + flag(many, MANY)
+    flag(nmi, NMI) + flag(machine_check, MACHINE_CHECK) + flag(level, LEVEL) + flag(many, MANY)
 }
 
-// The descriptor of what is pending (10.4 to 10.9).
-fn write_pending(d: &mut [u8], irr: [u32; 8], level: [u32; 8], nmi: bool)
+// The descriptor of what is pending (10.4 to 10.9, 10.17).
+fn write_pending(d: &mut [u8], irr: [u32; 8], level: [u32; 8], nmi: bool, machine_check: bool)
     requires { ⌜ length (now d) ≡ 32 ⌝ }
-    ensures { λ _. ⌜ now (d .exit) ≡ bytesFrom (handedBit irr level nmi) 0 32 ⌝ }
+    ensures { λ _. ⌜ now (d .exit) ≡ bytesFrom (handedBit irr level nmi «machine_check») 0 32 ⌝ }
 {
     let edge = vector_set_algebra::from_lowest(vector_set_algebra::difference(irr, level));
     let vector = highest_or_0(level);
     let flags = flags(
         nmi,
+        machine_check,
         !vector_set_search::is_empty(level),
         !vector_set_search::is_empty(edge),
     );
@@ -75,31 +77,47 @@ fn write_handed(
     irr: [u32; 8],
     irr_level: [u32; 8],
     nmi: bool,
+    machine_check: bool,
     isr: [u32; 8],
     isr_level: [u32; 8],
 )
     requires { ⌜ length (now bytes) ≡ 64 ⌝ }
-    ensures { λ _. ⌜ now (bytes .exit) ≡ handedBytes irr «irr_level» nmi isr «isr_level» ⌝ }
+    ensures { λ _. ⌜ now (bytes .exit) ≡ handedBytes irr «irr_level» nmi «machine_check» isr «isr_level» ⌝ }
 {
     let serving = vector_set_algebra::from_lowest(vector_set_algebra::difference(isr, isr_level));
-    write_pending(&mut bytes[0..DESCRIPTOR_BYTES], irr, irr_level, nmi);
+    write_pending(
+        &mut bytes[0..DESCRIPTOR_BYTES],
+        irr,
+        irr_level,
+        nmi,
+        machine_check,
+    );
     write_set(&mut bytes[DESCRIPTOR_BYTES..VMPL_BYTES], serving);
 }
 
-// Writes what a vCPU hands back into the page (10.3 to 10.11).
+// Writes what a vCPU hands back into the page (10.3 to 10.11, 10.17).
 pub fn hand_over(
     page: &mut [u8],
     vmpl: u32,
     irr: [u32; 8],
     irr_level: [u32; 8],
     nmi: bool,
+    machine_check: bool,
     isr: [u32; 8],
     isr_level: [u32; 8],
 )
     requires { ⌜ (256 ≤ length (now page)) × (1 ≤ vmpl) × (vmpl ≤ 3) ⌝ }
-    ensures { λ _. ⌜ now (page .exit) ≡ written vmpl (handedBytes irr «irr_level» nmi isr «isr_level») (now (page .entry)) ⌝ }
+    ensures { λ _. ⌜ now (page .exit) ≡ written vmpl (handedBytes irr «irr_level» nmi «machine_check» isr «isr_level») (now (page .entry)) ⌝ }
 {
     let first = VMPL_BYTES * vmpl as usize;
     let end = first + VMPL_BYTES;
-    write_handed(&mut page[first..end], irr, irr_level, nmi, isr, isr_level);
+    write_handed(
+        &mut page[first..end],
+        irr,
+        irr_level,
+        nmi,
+        machine_check,
+        isr,
+        isr_level,
+    );
 }

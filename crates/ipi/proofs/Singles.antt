@@ -10,11 +10,11 @@ use mir.Val.{boolByte}
 use Rattle.vector_set.specs.Bits.{one, bitAt}
 use Rattle.vector_set.specs.Sets.{has}
 use Rattle.vector_set.proofs.BitLaws.{bit-not, mask-test}
-use Rattle.vector_set.proofs.Laws.{Words}
+use Rattle.vector_set.proofs.Laws.{clash, Words}
 use Rattle.model.specs.declared.Item.{Item}
-use Rattle.model.specs.declared.Item.the-variants.{Nmi, Vector}
+use Rattle.model.specs.declared.Item.the-variants.{Nmi, MachineCheck, Vector}
 use Rattle.model.specs.declared.Vcpu.{Vcpu}
-use Rattle.model.specs.Items.{pending}
+use Rattle.model.specs.Items.{isMachineCheck, pending}
 use Rattle.ipi.specs.Posts.{postingOf, isNew}
 use Rattle.ipi.proofs.Marks.{Byte}
 
@@ -39,8 +39,9 @@ none-meets x = ap (λ (y : ℕ). not (eqb y 0)) (and-zero-l x)
 pub none-adds : (x : ℕ) → not (eqb (bitAnd 0 (2 ^ 32 - 1 - x)) 0) ≡ false
 none-adds x = none-meets (2 ^ 32 - 1 - x)
 
--- ---- an item's posting makes it pending where it was not
-pub new-is : (y : Item) (v : Vcpu) → Byte y → Words (v .irr) → isNew (postingOf y) (getD (v .irr) (postingOf y .word) 0) (v .nmi) ≡ not (pending y v)
+-- ---- the posting of an item that is sent makes it pending where it was not
+pub new-is : (y : Item) (v : Vcpu) → isMachineCheck y ≡ false → Byte y → Words (v .irr) → isNew (postingOf y) (getD (v .irr) (postingOf y .word) 0) (v .nmi) ≡ not (pending y v)
 unfolding isNew postingOf has
-new-is Nmi v b ws = refl
-new-is (Vector x) v b ws = single-adds (x % 32) (getD (v .irr) (x / 32) 0) (omega arith) (ws .small (x / 32) (omega (arith, b)))
+new-is Nmi v n b ws = refl
+new-is MachineCheck v n b ws = clash (cc)
+new-is (Vector x) v n b ws = single-adds (x % 32) (getD (v .irr) (x / 32) 0) (omega arith) (ws .small (x / 32) (omega (arith, b)))

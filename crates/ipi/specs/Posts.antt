@@ -1,4 +1,4 @@
--- What an item adds to a record: bits of one word of the IRR, and the NMI mark. Assumes nothing.
+-- What items add to a record: bits of one word of the IRR, and the marks of the NMI and of the machine check. Assumes nothing.
 use mathlib.Core.Path.{_≡_}
 use mathlib.Core.Bool.{Bool, true, false, cond, not, _&&_, _||_}
 use Prim.Native.Nat.{ℕ, _+_, _-_, _/_, _%_, _^_}
@@ -6,35 +6,39 @@ use lib.Bits.{bitAnd, bitOr}
 use lib.Dec.{eqb}
 use lib.ListN.{getD, set}
 use Rattle.model.specs.declared.Item.{Item}
-use Rattle.model.specs.declared.Item.the-variants.{Nmi, Vector}
+use Rattle.model.specs.declared.Item.the-variants.{Nmi, MachineCheck, Vector}
 use Rattle.model.specs.declared.Vcpu.{Vcpu}
-use Rattle.model.specs.State.{withIrr, withNmi}
+use Rattle.model.specs.State.{withIrr, withNmi, withMachineCheck}
 use Rattle.model.specs.Items.{mark}
 use Rattle.vector_set.specs.Bits.{one}
 use Rattle.ipi.specs.declared.Posting.{Posting}
 use Rattle.ipi.specs.declared.Counts.{Counts}
 
--- what makes an item pending: the NMI by its mark, a vector by its bit (7.17)
+-- what makes an item pending: the NMI and the machine check by their marks, a vector by its bit (4.42, 7.17)
 unfoldable pub postingOf : Item → Posting
-postingOf Nmi = record { nmi = true; word = 0; bits = 0 }
-postingOf (Vector v) = record { nmi = false; word = v / 32; bits = 2 ^ (v % 32) }
+postingOf Nmi = record { nmi = true; «machine_check» = false; word = 0; bits = 0 }
+postingOf MachineCheck = record { nmi = false; «machine_check» = true; word = 0; bits = 0 }
+postingOf (Vector v) = record { nmi = false; «machine_check» = false; word = v / 32; bits = 2 ^ (v % 32) }
 
--- a record with the posting's bits in its word, and with its mark
+-- a record with the posting's bits in its word, and with its marks
 abbrev pub wordIn : Posting → Vcpu → Vcpu
 wordIn p v = withIrr (set (v .irr) (p .word) (bitOr (getD (v .irr) (p .word) 0) (p .bits))) v
 
 abbrev pub markIn : Posting → Vcpu → Vcpu
 markIn p v = withNmi (v .nmi || p .nmi) v
 
+abbrev pub checkIn : Posting → Vcpu → Vcpu
+checkIn p v = withMachineCheck (v .«machine_check» || p .«machine_check») v
+
 -- the record with what a posting adds to it
 abbrev pub posted : Posting → Vcpu → Vcpu
-posted p v = markIn p (wordIn p v)
+posted p v = checkIn p (markIn p (wordIn p v))
 
 -- where p is an item's posting, w is the record v with that item pending (4.27, 7.17)
 abbrev pub Posted : Posting → Vcpu → Vcpu → Type 0
 Posted p v w = (y : Item) → p ≡ postingOf y → w ≡ mark y v
 
--- ---- a record whose word and mark were x and b before
+-- ---- a record whose word and marks were x, b and c before
 -- one of the posting's bits was clear in the word; one was set
 abbrev pub addsBit : Posting → ℕ → Bool
 addsBit p x = not (eqb (bitAnd (p .bits) (2 ^ 32 - 1 - x)) 0)
@@ -43,9 +47,13 @@ abbrev pub meetsBit : Posting → ℕ → Bool
 meetsBit p x = not (eqb (bitAnd (p .bits) x) 0)
 
 -- how many items of a posting, which has at most one bit, become pending, and how many were (4.29, 4.37)
-unfoldable pub countsOf : Posting → ℕ → Bool → Counts
-countsOf p x b = record { new = one (p .nmi && not b) + one (addsBit p x); merged = one (p .nmi && b) + one (meetsBit p x) }
+unfoldable pub countsOf : Posting → ℕ → Bool → Bool → Counts
+countsOf p x b c =
+    record {
+      new = one (p .nmi && not b) + one (p .«machine_check» && not c) + one (addsBit p x);
+      merged = one (p .nmi && b) + one (p .«machine_check» && c) + one (meetsBit p x);
+    }
 
--- whether the one item of a posting becomes pending (7.20)
+-- whether the one item of a posting, which is no machine check, becomes pending (7.20, 7.27)
 unfoldable pub isNew : Posting → ℕ → Bool → Bool
 isNew p x b = cond (p .nmi) (not b) (addsBit p x)

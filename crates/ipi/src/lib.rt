@@ -11,9 +11,10 @@ use model::Item;
 use model::Phase;
 use model::Target;
 
-// What an item adds to a record: bits of one word of the IRR, and the NMI mark.
+// What items add to a record: bits of one word of the IRR, and the marks of the NMI and of the machine check.
 pub struct Posting {
     pub nmi: bool,
+    pub machine_check: bool,
     pub word: usize,
     pub bits: u32,
 }
@@ -80,27 +81,43 @@ pub fn posting_of(item: Item) -> Posting
     match item {
         Item::Nmi => Posting {
             nmi: true,
+            machine_check: false,
+            word: 0,
+            bits: 0,
+        },
+        Item::MachineCheck => Posting {
+            nmi: false,
+            machine_check: true,
             word: 0,
             bits: 0,
         },
         Item::Vector(v) => Posting {
             nmi: false,
+            machine_check: false,
             word: (v / 32) as usize,
             bits: 1 << (v % 32) as u32,
         },
     }
 }
 
-// How many items of a posting become pending at a record whose word and mark were these, and how many were pending (4.29, 4.37).
-pub fn counts_of(posting: Posting, word: u32, nmi: bool) -> Counts
-    ensures { λ r. ⌜ r ≡ countsOf posting word nmi ⌝ }
+// How many items of a posting become pending at a record whose word and marks were these, and how many were pending (4.29, 4.37).
+pub fn counts_of(posting: Posting, word: u32, nmi: bool, machine_check: bool) -> Counts
+    ensures { λ r. ⌜ r ≡ countsOf posting word nmi «machine_check» ⌝ }
 {
-    let new = (posting.nmi && !nmi) as u32 + (posting.bits & !word != 0) as u32;
-    let merged = (posting.nmi && nmi) as u32 + (posting.bits & word != 0) as u32;
-    Counts { new, merged }
+    let new = (posting.bits & !word != 0) as u32;
+    let merged = (posting.bits & word != 0) as u32;
+    if !(posting.nmi | posting.machine_check) {
+        return Counts { new, merged };
+    }
+    Counts {
+        new: new + (posting.nmi & !nmi) as u32 + (posting.machine_check & !machine_check) as u32,
+        merged: merged
+            + (posting.nmi & nmi) as u32
+            + (posting.machine_check & machine_check) as u32,
+    }
 }
 
-// Whether the posting of one item makes it pending there (7.20).
+// Whether the posting of one item that an IPI sends makes it pending there (7.20): no IPI sends a machine check (7.27).
 pub fn is_new(posting: Posting, word: u32, nmi: bool) -> bool
     ensures { λ r. ⌜ r ≡ isNew posting word nmi ⌝ }
 {

@@ -51,6 +51,7 @@ book-flight m i f = book-put-same m i (withFlight f (vcpuAt m i)) refl
 pub record-mark : (y : Item) (v : Vcpu) → recordOf (mark y v) ≡ recordOf v
 unfolding mark
 record-mark item.Nmi v = refl
+record-mark item.MachineCheck v = refl
 record-mark (item.Vector x) v = refl
 
 record-reach : (y : Item) (t : Target) (i n k : ℕ) (v : Vcpu) → recordOf (reach y t i n k v) ≡ recordOf v
@@ -74,6 +75,7 @@ record-noticed a v = refl
 record-present : (y : Item) (v : Vcpu) → recordOf (present y v) ≡ recordOf v
 unfolding present unmark
 record-present item.Nmi v = refl
+record-present item.MachineCheck v = refl
 record-present (item.Vector x) v = refl
 
 pub record-entered : (a : Answer) (v : Vcpu) → recordOf (entered a v) ≡ recordOf v
@@ -85,6 +87,7 @@ record-entered (window x) v = refl
 record-giveBack : (y : Item) (v : Vcpu) → recordOf (giveBack y v) ≡ recordOf v
 unfolding giveBack mark
 record-giveBack item.Nmi v = refl
+record-giveBack item.MachineCheck v = refl
 record-giveBack (item.Vector x) v = refl
 
 pub record-undelivered : (o : Option Item) (v : Vcpu) → recordOf (undelivered o v) ≡ recordOf v

@@ -9,6 +9,7 @@ use native.Mathlib.Omega.{arith}
 use lib.Dec.{ltb, eqb}
 use Rattle.model.specs.declared.InFlight.the-variants as flight
 use Rattle.model.specs.declared.Item.{Item}
+use Rattle.model.specs.declared.Item.the-variants as item
 use Rattle.model.specs.declared.Target.{Target}
 use Rattle.model.specs.declared.Refusal.{Refusal}
 use Rattle.model.specs.declared.Local.{Local}
@@ -18,7 +19,7 @@ use Rattle.model.specs.declared.Vcpu.{Vcpu}
 use Rattle.model.specs.declared.Module.{Module}
 use Rattle.model.specs.State.{isActive, size, vcpuAt, withVcpu}
 use Rattle.model.specs.Codes.{codeOf, accept, refuse, Answer, nothing, presents, window, Result, done, counted, refused, accepted, presentedIn}
-use Rattle.model.specs.Items.{InRange, sameItem, isItem, itemInFlight, pending, unmarkAll}
+use Rattle.model.specs.Items.{isMachineCheck, InRange, sameItem, isItem, itemInFlight, pending, unmarkAll}
 use Rattle.model.specs.Doorbell.{Part, inPart, admitted}
 use Rattle.model.specs.Ipi.{icrItem, icrTarget, hits, reach, sent}
 use Rattle.model.specs.Requests.{requestOf, forget, serve}
@@ -33,7 +34,9 @@ use Rattle.lists.proofs.BookLaws.{record-book}
 use Rattle.lists.proofs.Follow.{part-accepted, part-refused, follow}
 use Rattle.model.proofs.Stays.{vmpl-next}
 use Rattle.model.proofs.Allowed.{none-in}
-use Rattle.lists.proofs.Pending.{pending-present, pending-giveBack, pending-emptied, gives, Like, like-noticed, like-serve}
+use Rattle.model.proofs.Kept.{sent-item}
+use Rattle.model.proofs.Presented.{pending-present, pending-giveBack, pending-emptied}
+use Rattle.lists.proofs.Pending.{gives, Like, like-noticed, like-serve}
 use Rattle.lists.proofs.Pending.{like-reach, Offered, offer-pending, Follows, flying-flight, tally-is, or-le, take-is}
 use Rattle.lists.proofs.Sends.{request-le, sendsBy}
 
@@ -70,8 +73,19 @@ unread-counts j x s w i (entry iF sh bl) a b c d g = refl
 unread-counts j x s w i nonDelivery a b c d g = refl
 unread-counts j x s w i (handBack p iF sh) a b c d g = refl
 
+-- no call sends a machine check
+no-check : (y : Item) → isMachineCheck y ≡ false → sameItem item.MachineCheck y ≡ false
+no-check item.Nmi h = refl
+no-check item.MachineCheck h = h
+no-check (item.Vector v) h = refl
+
+quiet-check : (j : ℕ) (s : Part) (w : Book) (i op c y : ℕ) (a : Result) (g : Ledger) → postAct j item.MachineCheck s w i (call op c y) a g ≡ g
+unfolding postAct writeSends
+quiet-check j s w i op c y a g =
+    rw (no-check (icrItem y) (sent-item y), and-false (eqb c 0x830), and-false (eqb c 0x83F), and-false (eqb op 3), and-false (accepted a))
+
 pub quiet : Quiet
-quiet = record { refusals = quiet-refused; reads = quiet-read; numbers = unread-number; counts = unread-counts }
+quiet = record { refusals = quiet-refused; reads = quiet-read; numbers = unread-number; counts = unread-counts; checks = quiet-check }
 
 -- ---- the invariant: with c pending at first, what was presented and is pending is covered by the ledger g, and what isInFlight is the latest
 module _ (j : ℕ) (x : Item) (r : InRange x) (c : ℕ) where

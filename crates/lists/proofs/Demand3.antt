@@ -60,6 +60,7 @@ isolated m =
 nothing-pending : (x : Item) → InRange x → (p : Phase) → one (pending x (bare p)) ≤ 0
 unfolding bare
 nothing-pending item.Nmi r p = omega arith
+nothing-pending item.MachineCheck r p = omega arith
 nothing-pending (item.Vector v) r p = rw (has-empty v r) (omega arith)
 
 pub demand3 : (n l : ℕ) → Demand3 n l

@@ -20,28 +20,14 @@ use Rattle.model.specs.Doorbell.{Part, inPart}
 use Rattle.model.specs.Registers.{class, ppr, endedAt, ended}
 use Rattle.model.specs.Ipi.{hits, reach}
 use Rattle.model.specs.Requests.{leaveIf, serve}
-use Rattle.model.specs.Events.{noticed, offerHighest, offer, present, giveBack, emptied}
+use Rattle.model.specs.Events.{noticed, offerHighest, offer}
 use Rattle.lists.specs.Ledger.{tally}
 use Rattle.vector_set.specs.Bits.{one}
 use Rattle.vector_set.specs.Sets.{highest}
 use Rattle.vector_set.proofs.Laws.{clash, highest-has}
-use Rattle.model.proofs.ItemLaws.{pending-mark, rest-mark, pending-unmark, pending-markAll, rest-markAll, pending-unmarkAll}
+use Rattle.model.proofs.ItemLaws.{pending-mark, rest-mark, pending-markAll, rest-markAll}
 
 -- ---- what is pending at a record after each change
-pub pending-present : (x : Item) → InRange x → (y : Item) (v : Vcpu) → pending x (present y v) ≡ (not (sameItem x y) && pending x v)
-unfolding present
-pending-present x r item.Nmi v = pending-unmark x r item.Nmi v
-pending-present x r (item.Vector y) v = pending-unmark x r (item.Vector y) v
-
-pub pending-giveBack : (x : Item) → InRange x → (y : Item) (v : Vcpu) → pending x (giveBack y v) ≡ (sameItem x y || pending x v)
-unfolding giveBack
-pending-giveBack x r item.Nmi v = pending-mark x r item.Nmi v
-pending-giveBack x r (item.Vector y) v = pending-mark x r (item.Vector y) v
-
-pub pending-emptied : (x : Item) → InRange x → (v : Vcpu) → pending x (emptied v) ≡ false
-unfolding emptied
-pending-emptied x r v = pending-unmarkAll x r v
-
 -- what a call gives to the caller's record: the vector of a self-IPI
 abbrev pub gives : Item → Local → Bool
 gives x local.Features = false
@@ -108,11 +94,12 @@ Offered a v = (x : Item) → isItem x (presentedIn a) ≡ true → pending x v �
 
 pub offer-pending : (iF sh bl : Bool) (v : Vcpu) → Offered (offer iF sh bl v) v
 unfolding offer offerHighest Offered
-offer-pending iF sh bl v = pick (v .nmi) (not (sh || bl)) refl
+offer-pending iF sh bl v = first (v .«machine_check») refl
   where
     above : (a b : Bool) (y : ℕ) → highest (v .irr) ≡ some y → Offered (cond a nothing (cond b (presents (item.Vector y)) (window y))) v
     above true b y e x h = clash (cc)
     above false true y e item.Nmi h = clash (cc)
+    above false true y e item.MachineCheck h = clash (cc)
     above false true y e (item.Vector z) h = rw (eqb-true z y h) (highest-has (v .irr) y e .0)
     above false false y e x h = clash (cc)
 
@@ -122,9 +109,18 @@ offer-pending iF sh bl v = pick (v .nmi) (not (sh || bl)) refl
 
     pick : (a b : Bool) → v .nmi ≡ a → Offered (cond (a && b) (presents item.Nmi) (offerHighest (iF && not sh) (ppr v) (highest (v .irr)))) v
     pick true true e item.Nmi h = e
+    pick true true e item.MachineCheck h = clash (cc)
     pick true true e (item.Vector z) h = clash (cc)
     pick true false e x h = high (highest (v .irr)) refl x h
     pick false b e x h = high (highest (v .irr)) refl x h
+
+    first : (a : Bool) → v .«machine_check» ≡ a
+        → Offered (cond a (presents item.MachineCheck)
+        (cond (v .nmi && not (sh || bl)) (presents item.Nmi) (offerHighest (iF && not sh) (ppr v) (highest (v .irr))))) v
+    first true e item.Nmi h = clash (cc)
+    first true e item.MachineCheck h = e
+    first true e (item.Vector z) h = clash (cc)
+    first false e x h = pick (v .nmi) (not (sh || bl)) refl x h
 
 -- ---- what is in flight is what the latest accepted entry presented
 abbrev pub Follows : Option Item → Option Item → Type 0
@@ -133,6 +129,7 @@ Follows (some y) l = l ≡ some y
 
 pub flying-flight : (y : Item) → itemInFlight (flightOf y) ≡ some y
 flying-flight item.Nmi = refl
+flying-flight item.MachineCheck = refl
 flying-flight (item.Vector x) = refl
 
 pub tally-is : (b : Bool) (n : ℕ) → tally b n ≡ n + one b

@@ -137,8 +137,8 @@ partOn l w i (some p) =
 abbrev pub partBy : ℕ → Book → Event → Part
 partBy l w e = partOn l w (e .vcpu) (noticePage (e .act))
 
--- for each event of a list what it admits, under the book that the events before it left. Two parts are equal exactly when the NMI,
--- the level-sensitive vector or its absence, and the edge set are: a set is its eight words (`set-ext`) (13.21)
+-- for each event of a list what it admits, under the book that the events before it left. Two parts are equal exactly when the NMI, the
+-- machine check, the level-sensitive vector or its absence, and the edge set are: a set is its eight words (`set-ext`) (13.21)
 unfoldable pub parts : ℕ → Book → List Event → List Part
 parts l w [] = []
 parts l w (e ∷ es) = partBy l w e ∷ parts l (feed w (note e)) es

@@ -38,7 +38,7 @@ pub record Isolated (m : Module) : Type 0 where
   pub book : (es : List Event) → bookAfter m es ≡ bookOf (final m es)
   -- and it has them with the notices struck out
   pub unread : (es : List Event) → bookAfter m (struck es) ≡ bookAfter m es
-  -- what an event admits by the book is allowed by the book on its vCPU, and is the NMI or a vector 31 to 255
+  -- what an event admits by the book is allowed by the book on its vCPU, and is the NMI, the machine check or a vector 31 to 255
   pub allowed : (es : List Event) (e : Event) (x : Item) → InRange x → inPart x (partBy (m .vmpl) (bookAfter m es) e) ≡ true
       → (has (recordAt (bookAfter m es) (e .vcpu) .allowed) (memberOf x) ≡ true) × IsVector x
   -- the book's admitted part is the machine's, no more and no less

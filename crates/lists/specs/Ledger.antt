@@ -94,3 +94,5 @@ pub record Quiet : Type 0 where
       → postAct j x s w i e (done a) g ≡ postAct j x s w i e (done b) g
   pub counts : (j : ℕ) (x : Item) (s : Part) (w : Book) (i : ℕ) (e : Act Bytes) (a b c d : ℕ) (g : Ledger)
       → postAct j x s w i e (counted a b) g ≡ postAct j x s w i e (counted c d) g
+  -- nor does any call send a machine check (7.27, 12.21)
+  pub checks : (j : ℕ) (s : Part) (w : Book) (i op c y : ℕ) (a : Result) (g : Ledger) → postAct j item.MachineCheck s w i (call op c y) a g ≡ g

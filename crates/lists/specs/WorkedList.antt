@@ -1,4 +1,4 @@
--- Worked lists (14.41, 14.44, 14.45): their results, their pages, their notices struck out, their tallies and what they admit.
+-- Worked lists (14.41, 14.44, 14.45, 14.70): their results, their pages, their notices struck out, their tallies and what they admit.
 -- Assumes nothing.
 use mathlib.Core.Path.{_≡_}
 use mathlib.Core.Bool.{Bool, true, false, _&&_}
@@ -8,6 +8,7 @@ use lib.Dec.{eqb}
 use lib.ListN.{length, set}
 use Rattle.model.specs.declared.Item.{Item}
 use Rattle.model.specs.declared.Item.the-variants as item
+use Rattle.model.specs.declared.Module.{Module}
 use Rattle.model.specs.State.{start}
 use Rattle.model.specs.Codes.{Answer, nothing, presents, window, Result, done, counted, answers, refused}
 use Rattle.model.specs.Items.{isItem}
@@ -109,10 +110,13 @@ pair =
 abbrev shownNmi : Result
 shownNmi = answers (presents item.Nmi)
 
--- its tallies of x on j: presented, admitted, sent, returned
+-- the tallies of x on j in a list on the module m: presented, admitted, sent, returned
+abbrev tellsOf : Module → List Event → ℕ → Item → List ℕ → Bool
+tellsOf m es j x ns =
+    let g = ledgerOf m j x es in sameNumbers (g .presented ∷ g .admitted ∷ g .sent ∷ g .returned ∷ []) ns
+
 abbrev tells : ℕ → Item → List ℕ → Bool
-tells j x ns =
-    let g = ledgerOf (start 2 1) j x pair in sameNumbers (g .presented ∷ g .admitted ∷ g .sent ∷ g .returned ∷ []) ns
+tells = tellsOf (start 2 1) pair
 
 unfoldable pub paired : List Bool
 paired =
@@ -127,6 +131,41 @@ paired =
     ∷ tells 1 (item.Vector 0x42) (0 ∷ 0 ∷ 0 ∷ 0 ∷ [])
     ∷ []
 
+-- ---- a list of machine checks (14.70)
+abbrev checkNotice : Event
+checkNotice = at 0 (notice (set announcing 65 0x02))
+
+abbrev checkStory : List Event
+checkStory =
+    at 0 (call 4 0x112 0)
+    ∷ checkNotice
+    ∷ checkNotice
+    ∷ enters false true true
+    ∷ at 0 nonDelivery
+    ∷ enters false true true
+    ∷ checkNotice
+    ∷ at 0 (call 4 0x12 0)
+    ∷ checkNotice
+    ∷ at 0 (call 3 0x83F 0x41)
+    ∷ at 0 (call 1 1 0)
+    ∷ at 0 (handBack zeros false true)
+    ∷ []
+
+abbrev shownCheck : Result
+shownCheck = answers (presents item.MachineCheck)
+
+unfoldable pub checked : List Bool
+checked =
+    sameResults (results (start 1 1) checkStory)
+    (done 0 ∷ counted 1 0 ∷ counted 0 1 ∷ shownCheck ∷ done 0 ∷ shownCheck ∷ counted 1 0 ∷ done 0 ∷ counted 0 0 ∷ done 1 ∷ done 0 ∷ done 65538 ∷ [])
+    ∷ samePages (pages (start 1 1) checkStory) (set (set zeros 65 0x42) 72 0x02 ∷ [])
+    ∷ tellsOf (start 1 1) checkStory 0 item.MachineCheck (2 ∷ 3 ∷ 0 ∷ 1 ∷ [])
+    ∷ tellsOf (start 1 1) checkStory 0 item.Nmi (0 ∷ 0 ∷ 0 ∷ 0 ∷ [])
+    ∷ tellsOf (start 1 1) checkStory 0 (item.Vector 18) (0 ∷ 0 ∷ 0 ∷ 0 ∷ [])
+    ∷ tellsOf (start 1 1) checkStory 0 (item.Vector 0x41) (0 ∷ 0 ∷ 1 ∷ 0 ∷ [])
+    ∷ sameNumbers (map items (parts 1 (bookOf (start 1 1)) checkStory)) (0 ∷ 1 ∷ 1 ∷ 0 ∷ 0 ∷ 0 ∷ 1 ∷ 0 ∷ 0 ∷ 0 ∷ 0 ∷ 0 ∷ [])
+    ∷ []
+
 -- ---- a notice of 0x41 before and after it is allowed (14.45): how many items each event admits by the book
 unfoldable pub judged : List ℕ
 judged = map items (parts 1 (bookOf (start 1 1)) (at 0 (notice byte64) ∷ at 0 (call 4 0x141 0) ∷ at 0 (notice byte64) ∷ []))
@@ -135,6 +174,7 @@ judged = map items (parts 1 (bookOf (start 1 1)) (at 0 (notice byte64) ∷ at 0 
 pub record WorkedList : Type 0 where
   pub listed : every listed ≡ true
   pub paired : every paired ≡ true
+  pub checked : every checked ≡ true
   pub judged : sameNumbers judged (0 ∷ 0 ∷ 1 ∷ []) ≡ true
   -- two lists that differ in bytes of two notices, on two vCPUs and one of them short, are alike
   pub different : AllAlike (at 0 (notice byte64) ∷ eoi ∷ at 1 (notice (1 ∷ [])) ∷ []) (at 0 (notice zeros) ∷ eoi ∷ at 1 (notice (0 ∷ [])) ∷ [])

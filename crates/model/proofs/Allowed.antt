@@ -1,4 +1,4 @@
--- What a notice admits is in the set that it was judged by, and is the NMI or a vector 31 to 255.
+-- What a notice admits is in the set that it was judged by, and is the NMI, the machine check or a vector 31 to 255.
 -- Assumes nothing.
 use mathlib.Core.Path.{_≡_, refl, _∙_}
 use mathlib.Core.Bool.{Bool, true, false, cond, _&&_, _||_, or-false, and-eq-true-iff}
@@ -10,8 +10,8 @@ use borrow.Author.Tests.{eqb-true, leb-true}
 use Rattle.model.specs.declared.Item.{Item}
 use Rattle.model.specs.declared.Item.the-variants as item
 use Rattle.model.specs.Items.{InRange, IsVector, memberOf}
-use Rattle.model.specs.Doorbell.{bitOf, announces, descriptor, vectorField, nmiBit, levelBit, isVector}
-use Rattle.model.specs.Doorbell.{inPart, noPart, isLevel, admitsNmi, admitsLevel, admitsEdge, admits, admitted}
+use Rattle.model.specs.Doorbell.{bitOf, announces, descriptor, vectorField, nmiBit, machineCheckBit, levelBit, isVector}
+use Rattle.model.specs.Doorbell.{inPart, noPart, isLevel, admitsMark, admitsLevel, admitsEdge, admits, admitted}
 use Rattle.model.specs.Events.{Bytes}
 use Rattle.vector_set.specs.Sets.{has, empty}
 use Rattle.vector_set.proofs.Laws.{clash, has-collect, has-empty}
@@ -20,6 +20,7 @@ use Rattle.vector_set.proofs.Laws.{clash, has-collect, has-empty}
 pub none-in : (x : Item) → InRange x → inPart x noPart ≡ false
 unfolding noPart
 none-in item.Nmi r = refl
+none-in item.MachineCheck r = refl
 none-in (item.Vector v) r = or-false (has empty v) ∙ has-empty v r
 
 pub none-admitted : {A : Type 0} (x : Item) → InRange x → inPart x noPart ≡ true → A
@@ -50,8 +51,9 @@ edge-fits a d v h =
     (g .1, is-vector v (g .0))
 
 admits-fits : (a d : List ℕ) (x : Item) → InRange x → inPart x (admits a d) ≡ true → Fits a x
-unfolding admits admitsNmi
+unfolding admits admitsMark
 admits-fits a d item.Nmi r h = (and-eq-true-iff (bitOf d nmiBit) (has a 2) .0 h .1, tt)
+admits-fits a d item.MachineCheck r h = (and-eq-true-iff (bitOf d machineCheckBit) (has a 18) .0 h .1, tt)
 admits-fits a d (item.Vector v) r h = pick (admitsEdge a d v) (isLevel (admitsLevel a d) v) refl refl (rw (has-collect (admitsEdge a d) v r) at h)
   where
     pick : (b c : Bool) → admitsEdge a d v ≡ b → isLevel (admitsLevel a d) v ≡ c → (b || c) ≡ true → Fits a (item.Vector v)

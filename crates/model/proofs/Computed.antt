@@ -6,7 +6,7 @@ use Rattle.vector_set.specs.Sets.{has, words, collect, empty, full, insert, rem
 use Rattle.vector_set.specs.Sets.{highestBelow, highest, countBelow, count, isEmpty, wordOf}
 use Rattle.model.specs.State.{bare, size, vcpuAt, started, start, stopped, withVcpu, withRegistrations}
 use Rattle.model.specs.Items.{itemCount, mark, unmark, markAll, unmarkAll}
-use Rattle.model.specs.Doorbell.{bitOf, bytesFrom, mapBits, announces, descriptor, noPart, admitsNmi, admitsLevel, admitsEdge, admits}
+use Rattle.model.specs.Doorbell.{bitOf, bytesFrom, mapBits, announces, descriptor, noPart, admitsMark, admitsLevel, admitsEdge, admits}
 use Rattle.model.specs.Doorbell.{admitted, items, clearsBit, clears, noticedPage, handedBit, servingBit, handedBytes, written}
 use Rattle.model.specs.Registers.{isRead, isWrite, isBoth, kindOf, pprOf, ppr, ldr, tmr, registerValue, endedAt, ended, endedLevelAt, endedLevel}
 use Rattle.model.specs.Requests.{registration, writeValue, nameable, permission, requestOf, serve, callVerdict}
@@ -14,6 +14,7 @@ use Rattle.model.specs.Events.{noticed, itemsNew, itemsMerged, offerHigh
 use Rattle.model.specs.Events.{vcpuVerdict, verdict, callEffect, effect, concluded, step, giveBack, undelivered}
 use Rattle.model.specs.Cases.{cases, Starred}
 use Rattle.model.specs.Worked.{further, Worked}
+use Rattle.model.specs.WorkedChecks.{checks, WorkedChecks}
 use Rattle.model.specs.Ipi.{icrReservedClear, icrIsFixed, icrIsNmi, icrLegal, icrItem, icrTarget, hits, reach, mapFrom, sent, newBits}
 
 pub worked : Worked
@@ -21,8 +22,19 @@ unfolding Starred cases further giveBack undelivered icrReservedClear icrIsFixed
     icrTarget hits reach mapFrom sent newBits itemCount itemsNew itemsMerged bits has words collect empty full insert remove union difference
     highestBelow highest countBelow count isEmpty wordOf bare size vcpuAt started start stopped withVcpu withRegistrations mark unmark markAll
     unmarkAll bitOf bytesFrom mapBits
-    announces descriptor noPart admitsNmi admitsLevel admitsEdge admits admitted items clearsBit clears noticedPage handedBit servingBit handedBytes
+    announces descriptor noPart admitsMark admitsLevel admitsEdge admits admitted items clearsBit clears noticedPage handedBit servingBit handedBytes
     written isRead isWrite isBoth kindOf pprOf ppr ldr tmr registerValue endedAt ended endedLevelAt endedLevel registration writeValue nameable
     permission requestOf serve callVerdict noticed offerHighest offer present entered emptied handed handBackResult vcpuVerdict verdict callEffect
     effect concluded step
 worked = record { starred = refl; further = refl }
+
+pub worked-checks : WorkedChecks
+unfolding checks giveBack undelivered icrReservedClear icrIsFixed icrIsNmi icrLegal icrItem
+    icrTarget hits reach mapFrom sent newBits itemCount itemsNew itemsMerged bits has words collect empty full insert remove union difference
+    highestBelow highest countBelow count isEmpty wordOf bare size vcpuAt started start stopped withVcpu withRegistrations mark unmark markAll
+    unmarkAll bitOf bytesFrom mapBits
+    announces descriptor noPart admitsMark admitsLevel admitsEdge admits admitted items clearsBit clears noticedPage handedBit servingBit handedBytes
+    written isRead isWrite isBoth kindOf pprOf ppr ldr tmr registerValue endedAt ended endedLevelAt endedLevel registration writeValue nameable
+    permission requestOf serve callVerdict noticed offerHighest offer present entered emptied handed handBackResult vcpuVerdict verdict callEffect
+    effect concluded step
+worked-checks = record { checks = refl }

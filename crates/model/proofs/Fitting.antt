@@ -1,4 +1,4 @@
--- What a call puts anywhere may stand there: a vector 31 to 255, in A the NMI's 2 too.
+-- What a call puts anywhere may stand there: a vector 31 to 255, in A also 2 and 18, which stand for the NMI and the machine check.
 -- Assumes nothing.
 use mathlib.Core.Path.{_≡_, refl}
 use mathlib.Core.Bool.{Bool, true, false, cond, not, _&&_, _||_, and-eq-true-iff}

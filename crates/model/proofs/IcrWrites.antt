@@ -7,7 +7,6 @@ use Prim.Native.Nat.{ℕ, zero, suc, _<_}
 use lib.Dec.{ltb, eqb}
 use lib.ListN.{length, getD, set}
 use borrow.Author.Tests.{eq-eqb}
-use Rattle.vector_set.specs.Sets.{empty}
 use Rattle.vector_set.proofs.Laws.{clash}
 use Rattle.model.specs.declared.Item.{Item}
 use Rattle.model.specs.declared.Item.the-variants as item
@@ -17,7 +16,7 @@ use Rattle.model.specs.declared.Request.{Request}
 use Rattle.model.specs.declared.Request.the-variants as request
 use Rattle.model.specs.declared.Vcpu.{Vcpu}
 use Rattle.model.specs.declared.Module.{Module}
-use Rattle.model.specs.State.{isActive, absent, size, vcpuAt, withVcpu, withRegistrations, withIrr, withNmi, withIcr}
+use Rattle.model.specs.State.{isActive, absent, size, vcpuAt, withVcpu, withRegistrations, withIcr}
 use Rattle.model.specs.Codes.{Verdict, accept, refuse, need, done}
 use Rattle.model.specs.Registers.{isRead, isWrite, isBoth, kindOf, registerValue}
 use Rattle.model.specs.Requests.{bad, writeValue, requestOf, forget, serve, callVerdict}
@@ -26,7 +25,7 @@ use Rattle.model.specs.Items.{mark, unmarkAll}
 use Rattle.model.specs.Events.{call, at, vcpuVerdict, verdict, Effect, callEffect, effect, effectOf, Out, refusal, concluded, decided, step, next}
 use Rattle.model.specs.Demand2.{EqualBut14And15, writesIcr, withIcrAt, SameWrite}
 use Rattle.model.proofs.Stored.{on-put, vcpuAt-count, vcpuAt-sent, by-reach, needed, by-verdict, Known, known-of}
-use Rattle.model.proofs.ItemLaws.{rest-mark}
+use Rattle.model.proofs.ItemLaws.{unmarked-mark}
 use Rattle.model.proofs.IcrBits.{same-delivery}
 
 -- ---- a write
@@ -65,6 +64,7 @@ reach-icr y t i n k x v = pick (reached t i n k (v .phase)) y
   where
     pick : (b : Bool) (y : Item) → withIcr 0 (cond b (mark y (withIcr x v)) (withIcr x v)) ≡ cond b (mark y (withIcr 0 v)) (withIcr 0 v)
     pick true item.Nmi = refl
+    pick true item.MachineCheck = refl
     pick true (item.Vector z) = refl
     pick false y = refl
 
@@ -153,9 +153,7 @@ size-written m i x = refl
 
 -- an IPI touches what is pending alone
 unmarked-reach : (y : Item) (t : Target) (i n k : ℕ) (v : Vcpu) → unmarkAll (reach y t i n k v) ≡ unmarkAll v
-unfolding unmarkAll
-unmarked-reach y t i n k v =
-    by-reach y t i n k v (λ u. unmarkAll u ≡ unmarkAll v) (ap (λ (u : Vcpu). withNmi false (withIrr empty u)) (rest-mark y v)) refl
+unmarked-reach y t i n k v = by-reach y t i n k v (λ u. unmarkAll u ≡ unmarkAll v) (unmarked-mark y v) refl
 
 -- the record j after it, but for what is pending
 touched : (m : Module) (i x j : ℕ) → i < length (m .vcpus)

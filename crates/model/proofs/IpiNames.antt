@@ -8,11 +8,11 @@ use lib.Dec.{leb, ltb, eqb}
 use lib.ListN.{length}
 use borrow.Author.Tests.{leb-true, ltb-true, ltb-false, lt-ltb, le-ltb, eq-eqb, ne-eqb}
 use Rattle.vector_set.specs.Bits.{bitAt, bits}
-use Rattle.vector_set.specs.Sets.{empty, isVector}
+use Rattle.vector_set.specs.Sets.{isVector}
 use Rattle.vector_set.proofs.BitLaws.{bits-bit, bits-lt, bit-above}
 use Rattle.vector_set.proofs.Laws.{clash}
 use Rattle.model.specs.declared.Item.{Item}
-use Rattle.model.specs.declared.Item.the-variants.{Nmi, Vector}
+use Rattle.model.specs.declared.Item.the-variants.{Nmi, MachineCheck, Vector}
 use Rattle.model.specs.declared.Local.the-variants as local
 use Rattle.model.specs.declared.Refusal.the-variants.{UnknownVcpu, NotActive}
 use Rattle.model.specs.declared.Request.{Request}
@@ -20,7 +20,7 @@ use Rattle.model.specs.declared.Request.the-variants as request
 use Rattle.model.specs.declared.Target.{Target}
 use Rattle.model.specs.declared.Vcpu.{Vcpu}
 use Rattle.model.specs.declared.Module.{Module}
-use Rattle.model.specs.State.{isActive, size, vcpuAt, withVcpu, withRegistrations, withIrr, withNmi, withIcr}
+use Rattle.model.specs.State.{isActive, size, vcpuAt, withVcpu, withRegistrations, withIcr}
 use Rattle.model.specs.Codes.{accept, done}
 use Rattle.model.specs.Items.{InRange, sameItem, pending, mark, unmarkAll}
 use Rattle.model.specs.Registers.{isRead, isWrite, isBoth, kindOf}
@@ -29,7 +29,7 @@ use Rattle.model.specs.Ipi.{icrType, icrVector, icrItem, icrTarget, hits
 use Rattle.model.specs.Events.{call, at, vcpuVerdict, verdict, callEffect, effect, effectOf, Out, concluded, step, next}
 use Rattle.model.specs.Demand2.{writesIcr, sendsSelf}
 use Rattle.model.proofs.Stored.{on-put, get-put, vcpuAt-count, vcpuAt-sent, size-put, size-count, size-le, needed, by-verdict, Known, known-of}
-use Rattle.model.proofs.ItemLaws.{pending-mark, rest-mark}
+use Rattle.model.proofs.ItemLaws.{pending-mark, unmarked-mark}
 use Rattle.model.proofs.IcrWrites.{number-of, writtenAfter, by-answer}
 
 -- ---- what an IPI makes pending
@@ -43,6 +43,7 @@ sent-in-range x = pick (eqb (icrType x) 4)
 
 same-item : (y : Item) → sameItem y y ≡ true
 same-item Nmi = refl
+same-item MachineCheck = refl
 same-item (Vector v) = eq-eqb v v refl
 
 pending-reach : (y : Item) → InRange y → (t : Target) (i n k : ℕ) (v : Vcpu) → pending y (reach y t i n k v) ≡ (reached t i n k (v .phase) || pending y v)
@@ -198,9 +199,8 @@ self-reaches m i x r =
 
 pub self-touches : (m : Module) (i x j r : ℕ) → step m (sendsSelf i x) .result ≡ done r
     → unmarkAll (vcpuAt (next m (sendsSelf i x)) j) ≡ unmarkAll (cond (eqb j i) (forget (vcpuAt m j)) (vcpuAt m j))
-unfolding unmarkAll
 self-touches m i x j r =
     by-self m i x r (λ b u. unmarkAll (vcpuAt u j) ≡ unmarkAll (cond (eqb j i) (forget (vcpuAt m j)) (vcpuAt m j)))
     (λ v s. rw (vcpuAt-count)
     (on-put m i (mark (Vector x) (forget (vcpuAt m i))) j (s .there) (λ _ b u w. unmarkAll w ≡ unmarkAll (cond b (forget u) u))
-    (ap (λ (u : Vcpu). withNmi false (withIrr empty u)) (rest-mark (Vector x) (forget (vcpuAt m i)))) refl))
+    (unmarked-mark (Vector x) (forget (vcpuAt m i))) refl))

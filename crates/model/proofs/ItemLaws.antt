@@ -3,39 +3,64 @@
 use mathlib.Core.Path.{_≡_, refl}
 use mathlib.Core.Bool.{Bool, false, not, _&&_, _||_}
 use Rattle.model.specs.declared.Item.{Item}
-use Rattle.model.specs.declared.Item.the-variants.{Nmi, Vector}
+use Rattle.model.specs.declared.Item.the-variants.{Nmi, MachineCheck, Vector}
 use Rattle.model.specs.declared.Vcpu.{Vcpu}
-use Rattle.model.specs.State.{withIrr, withNmi}
+use Rattle.model.specs.State.{withIrr, withNmi, withMachineCheck}
 use Rattle.model.specs.Items.{InRange, sameItem, pending, mark, unmark, markAll, unmarkAll}
 use Rattle.vector_set.specs.Sets.{has}
 use Rattle.vector_set.proofs.Laws.{has-collect, has-empty, has-insert, has-remove}
 
 -- u is v but for what is pending
 abbrev pub Rest : Vcpu → Vcpu → Type 0
-Rest u v = u ≡ withNmi (u .nmi) (withIrr (u .irr) v)
+Rest u v = u ≡ withNmi (u .nmi) (withMachineCheck (u .«machine_check») (withIrr (u .irr) v))
 
 pub pending-mark : (x : Item) → InRange x → (y : Item) (v : Vcpu) → pending x (mark y v) ≡ (sameItem x y || pending x v)
 unfolding mark
 pending-mark Nmi r Nmi v = refl
+pending-mark MachineCheck r Nmi v = refl
 pending-mark (Vector z) r Nmi v = refl
+pending-mark Nmi r MachineCheck v = refl
+pending-mark MachineCheck r MachineCheck v = refl
+pending-mark (Vector z) r MachineCheck v = refl
 pending-mark Nmi r (Vector y) v = refl
+pending-mark MachineCheck r (Vector y) v = refl
 pending-mark (Vector z) r (Vector y) v = has-insert y (v .irr) z r
 
 pub rest-mark : (y : Item) (v : Vcpu) → Rest (mark y v) v
 unfolding mark
 rest-mark Nmi v = refl
+rest-mark MachineCheck v = refl
 rest-mark (Vector y) v = refl
+
+-- P and the marks apart nothing changes
+pub unmarked-mark : (y : Item) (v : Vcpu) → unmarkAll (mark y v) ≡ unmarkAll v
+unfolding mark unmarkAll
+unmarked-mark Nmi v = refl
+unmarked-mark MachineCheck v = refl
+unmarked-mark (Vector y) v = refl
+
+pub unmarked-unmark : (y : Item) (v : Vcpu) → unmarkAll (unmark y v) ≡ unmarkAll v
+unfolding unmark unmarkAll
+unmarked-unmark Nmi v = refl
+unmarked-unmark MachineCheck v = refl
+unmarked-unmark (Vector y) v = refl
 
 pub pending-unmark : (x : Item) → InRange x → (y : Item) (v : Vcpu) → pending x (unmark y v) ≡ (not (sameItem x y) && pending x v)
 unfolding unmark
 pending-unmark Nmi r Nmi v = refl
+pending-unmark MachineCheck r Nmi v = refl
 pending-unmark (Vector z) r Nmi v = refl
+pending-unmark Nmi r MachineCheck v = refl
+pending-unmark MachineCheck r MachineCheck v = refl
+pending-unmark (Vector z) r MachineCheck v = refl
 pending-unmark Nmi r (Vector y) v = refl
+pending-unmark MachineCheck r (Vector y) v = refl
 pending-unmark (Vector z) r (Vector y) v = has-remove y (v .irr) z r
 
 pub pending-markAll : (x : Item) → InRange x → (f : Item → Bool) (v : Vcpu) → pending x (markAll f v) ≡ (pending x v || f x)
 unfolding markAll
 pending-markAll Nmi r f v = refl
+pending-markAll MachineCheck r f v = refl
 pending-markAll (Vector z) r f v = has-collect (λ x. has (v .irr) x || f (Vector x)) z r
 
 pub rest-markAll : (f : Item → Bool) (v : Vcpu) → Rest (markAll f v) v
@@ -45,4 +70,5 @@ rest-markAll f v = refl
 pub pending-unmarkAll : (x : Item) → InRange x → (v : Vcpu) → pending x (unmarkAll v) ≡ false
 unfolding unmarkAll
 pending-unmarkAll Nmi r v = refl
+pending-unmarkAll MachineCheck r v = refl
 pending-unmarkAll (Vector z) r v = has-empty z r

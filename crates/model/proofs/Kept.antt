@@ -21,8 +21,8 @@ use Rattle.model.specs.declared.Module.{Module}
 use Rattle.model.specs.State.{isActive, size, vcpuAt, withVcpu}
 use Rattle.model.specs.Doorbell.{Part, isLevel, admitted}
 use Rattle.model.specs.Registers.{endedAt, ended}
-use Rattle.model.specs.Ipi.{icrItem, icrTarget, hits, reach}
-use Rattle.model.specs.Items.{InRange, pendingIn, pending, mark}
+use Rattle.model.specs.Ipi.{icrType, icrVector, icrItem, icrTarget, hits, reach}
+use Rattle.model.specs.Items.{InRange, isMachineCheck, pendingIn, pending, mark}
 use Rattle.model.specs.Requests.{requestOf, forget, leaveIf, serve}
 use Rattle.model.specs.Events.{Act, notice, call, entry, nonDelivery, handBack, at, Bytes, Event, noticed, Reply, gives}
 use Rattle.model.specs.Events.{sends, callEffect, effect, effectOf, store, deliver, concluded, next}
@@ -33,15 +33,24 @@ use Rattle.vector_set.proofs.Laws.{clash, has-collect}
 use Rattle.model.proofs.Stored.{on-put, by-reach, vcpuAt-count, vcpuAt-sent, size-put, size-count, by-verdict, known-of, servedIn}
 use Rattle.model.proofs.ItemLaws.{pending-mark, rest-mark}
 
--- ---- what a guest call keeps: whatever is said of the NMI mark, P and PL, and stays true where an item becomes pending
+-- ---- what a guest call keeps: whatever is said of the marks, P and PL, and stays true where an item becomes pending
 abbrev Said : Type 1
-Said = Bool → List ℕ → List ℕ → Type 0
+Said = Bool → Bool → List ℕ → List ℕ → Type 0
 
 abbrev On : Said → Vcpu → Type 0
-On Q v = Q (v .nmi) (v .irr) (v .«irr_level»)
+On Q v = Q (v .nmi) (v .«machine_check») (v .irr) (v .«irr_level»)
 
+-- no guest call makes a machine check pending (7.27)
 abbrev Marks : Said → Type 0
-Marks Q = (y : Item) (v : Vcpu) → On Q v → On Q (mark y v)
+Marks Q = (y : Item) → isMachineCheck y ≡ false → (v : Vcpu) → On Q v → On Q (mark y v)
+
+pub sent-item : (x : ℕ) → isMachineCheck (icrItem x) ≡ false
+unfolding icrItem
+sent-item x = pick (eqb (icrType x) 4)
+  where
+    pick : (b : Bool) → isMachineCheck (cond b item.Nmi (item.Vector (icrVector x))) ≡ false
+    pick true = refl
+    pick false = refl
 
 kept-leave : (Q : Said) (b : Bool) (v : Vcpu) → On Q v → On Q (leaveIf b v)
 kept-leave Q true v h = h
@@ -63,7 +72,7 @@ kept-serve Q s (local.Disallow x) i k v h = h
 kept-serve Q s (local.Read r) i k v h = h
 kept-serve Q s (local.SetTpr x) i k v h = h
 kept-serve Q s local.Eoi i k v h = kept-ended Q (highest (v .isr)) v h
-kept-serve Q s (local.SelfIpi x) i k v h = s (item.Vector x) v h
+kept-serve Q s (local.SelfIpi x) i k v h = s (item.Vector x) refl v h
 
 kept-call : (Q : Said) → Marks Q → (r : Request) (i k : ℕ) (v : Vcpu) → On Q v → On Q (callEffect r i k v .vcpu)
 unfolding callEffect
@@ -75,7 +84,7 @@ kept-delivered : (Q : Said) → Marks Q → (r : Reply) (i : ℕ) (m : Module) (
 kept-delivered Q s (gives r) i m j h = h
 kept-delivered Q s (sends y) i m j h =
     subst (On Q) (sym (vcpuAt-sent (icrItem y) (icrTarget y) i m j))
-    (by-reach (icrItem y) (icrTarget y) i (size m) j (vcpuAt m j) (On Q) (s (icrItem y) (vcpuAt m j) h) h)
+    (by-reach (icrItem y) (icrTarget y) i (size m) j (vcpuAt m j) (On Q) (s (icrItem y) (sent-item y) (vcpuAt m j) h) h)
 
 calls-keep : (Q : Said) → Marks Q → (m : Module) (i op c x j : ℕ) → On Q (vcpuAt m j) → On Q (vcpuAt (next m (at i (call op c x))) j)
 unfolding concluded effect
@@ -89,24 +98,37 @@ calls-keep Q s m i op c x j h =
 
 -- PL is the set p
 abbrev LevelIs : List ℕ → Said
-LevelIs p nmi irr pl = pl ≡ p
+LevelIs p nmi mc irr pl = pl ≡ p
 
 level-marks : (p : List ℕ) → Marks (LevelIs p)
-level-marks p y v h = ap (λ (u : Vcpu). u .«irr_level») (rest-mark y v) ∙ h
+level-marks p y n v h = ap (λ (u : Vcpu). u .«irr_level») (rest-mark y v) ∙ h
 
 pub calls-keep-level : (m : Module) (i op c x j : ℕ) → vcpuAt (next m (at i (call op c x))) j .«irr_level» ≡ vcpuAt m j .«irr_level»
 calls-keep-level m i op c x j = calls-keep (LevelIs (vcpuAt m j .«irr_level»)) (level-marks (vcpuAt m j .«irr_level»)) m i op c x j refl
 
 -- the item y is pending
 abbrev IsPending : Item → Said
-IsPending y nmi irr pl = pendingIn y nmi irr ≡ true
+IsPending y nmi mc irr pl = pendingIn y nmi mc irr ≡ true
 
 pending-marks : (y : Item) → InRange y → Marks (IsPending y)
-pending-marks y r z v h = pending-mark y r z v ∙ rw (h, or-true)
+pending-marks y r z n v h = pending-mark y r z v ∙ rw (h, or-true)
 
 pub calls-keep-pending : (m : Module) (i op c x j : ℕ) (y : Item) → InRange y → pending y (vcpuAt m j) ≡ true
     → pending y (vcpuAt (next m (at i (call op c x))) j) ≡ true
 calls-keep-pending m i op c x j y r h = calls-keep (IsPending y) (pending-marks y r) m i op c x j h
+
+-- the machine check's mark is b
+abbrev CheckIs : Bool → Said
+CheckIs b nmi mc irr pl = mc ≡ b
+
+check-marks : (b : Bool) → Marks (CheckIs b)
+unfolding mark
+check-marks b item.Nmi n v h = h
+check-marks b item.MachineCheck n v h = clash (cc)
+check-marks b (item.Vector x) n v h = h
+
+pub calls-keep-checks : (m : Module) (i op c x j : ℕ) → vcpuAt (next m (at i (call op c x))) j .«machine_check» ≡ vcpuAt m j .«machine_check»
+calls-keep-checks m i op c x j = calls-keep (CheckIs (vcpuAt m j .«machine_check»)) (check-marks (vcpuAt m j .«machine_check»)) m i op c x j refl
 
 -- ---- a request takes no vector out of PL
 -- x stays in PL from the record u to v
@@ -115,10 +137,10 @@ Stays x u v = has (u .«irr_level») x ≡ true → has (v .«irr_level») x ≡
 
 -- x is in PL
 abbrev InLevel : ℕ → Said
-InLevel x nmi irr pl = has pl x ≡ true
+InLevel x nmi mc irr pl = has pl x ≡ true
 
 in-level-marks : (x : ℕ) → Marks (InLevel x)
-in-level-marks x y v h = ap (λ (u : Vcpu). has (u .«irr_level») x) (rest-mark y v) ∙ h
+in-level-marks x y n v h = ap (λ (u : Vcpu). has (u .«irr_level») x) (rest-mark y v) ∙ h
 
 stays-noticed : (x : ℕ) → x < 256 → (a : Part) (v : Vcpu) → Stays x v (noticed a v)
 unfolding noticed

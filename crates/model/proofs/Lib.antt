@@ -13,6 +13,8 @@ pub mod IcrBits
 pub mod IcrWrites
 pub mod NoticeCounts
 pub mod IpiNames
+pub mod Presented
+pub mod ChecksApart
 pub mod ReadBack
 pub mod Demand1
 pub mod Demand2

@@ -7,36 +7,36 @@ use mathlib.Core.Option.{Option, none, some}
 use Prim.Native.Nat.{ℕ, _+_, _<_, _≤_}
 use native.Mathlib.Omega.{arith}
 use lib.Dec.{leb, eqb}
-use lib.ListN.{length}
 use borrow.Author.Tests.{leb-true, eq-eqb}
 use Rattle.vector_set.specs.Bits.{one}
 use Rattle.vector_set.specs.Sets.{has, collect, empty, count}
 use Rattle.vector_set.proofs.Laws.{clash, has-collect, has-empty, collect-ext}
 use Rattle.vector_set.proofs.Counts.{count-split, count-with}
 use Rattle.model.specs.declared.Item.{Item}
-use Rattle.model.specs.declared.Item.the-variants.{Nmi, Vector}
+use Rattle.model.specs.declared.Item.the-variants.{Nmi, MachineCheck, Vector}
 use Rattle.model.specs.declared.Vcpu.{Vcpu}
 use Rattle.model.specs.declared.Module.{Module}
-use Rattle.model.specs.State.{vcpuAt, withVcpu, withRegistrations, withIrrLevel}
+use Rattle.model.specs.State.{vcpuAt, withIrrLevel}
 use Rattle.model.specs.Codes.{Result, counted, refused}
 use Rattle.model.specs.Items.{InRange, itemCount, pending, markAll, unmarkAll}
 use Rattle.model.specs.Doorbell.{bitOf, levelBit, manyBit, vectorField, isVector, Part, noPart, isLevel, inPart, isSome, announces, descriptor}
-use Rattle.model.specs.Doorbell.{admitsNmi, admitsLevel, admitsEdge, admits, admitted, items}
+use Rattle.model.specs.Doorbell.{nmiBit, machineCheckBit, admitsMark, admitsLevel, admitsEdge, admits, admitted, items}
 use Rattle.model.specs.Events.{notice, at, Bytes, noticed, itemsNew, itemsMerged, effect, effectOf, concluded, Out, step, next}
-use Rattle.model.proofs.Stored.{on-put, get-put, vcpuAt-count, by-verdict, known-of}
+use Rattle.model.proofs.Stored.{on-put, stored-at, vcpuAt-count, by-verdict, known-of}
 use Rattle.model.proofs.ItemLaws.{pending-markAll}
 
 -- ---- items counted
 pub item-count-ext : (f g : Item → Bool) → ((x : Item) → InRange x → f x ≡ g x) → itemCount f ≡ itemCount g
 unfolding itemCount
 item-count-ext f g h =
-    ap₂ _+_ (ap one (h Nmi tt)) (ap count (collect-ext (λ v. f (Vector v)) (λ v. g (Vector v)) (λ v l. h (Vector v) l)))
+    ap₂ _+_ (ap₂ _+_ (ap one (h Nmi tt)) (ap one (h MachineCheck tt))) (ap count (collect-ext (λ v. f (Vector v)) (λ v. g (Vector v)) (λ v l. h (Vector v) l)))
 
 -- those with g and those without
 pub item-count-split : (f g : Item → Bool) → itemCount (λ x. f x && not (g x)) + itemCount (λ x. f x && g x) ≡ itemCount f
 unfolding itemCount
 item-count-split f g =
     let a = pick (f Nmi) (g Nmi) in
+    let c = pick (f MachineCheck) (g MachineCheck) in
     let b = count-split (λ v. f (Vector v)) (λ v. g (Vector v)) in
     omega arith
   where
@@ -66,10 +66,6 @@ first-of e = cc
 
 second-of : {a b c d : ℕ} → counted a b ≡ counted c d → b ≡ d
 second-of e = cc
-
--- the record that was stored
-stored-at : (m : Module) (i k : ℕ) (w : Vcpu) → i < length (m .vcpus) → vcpuAt (withRegistrations k (withVcpu m i w)) i ≡ w
-stored-at m i k w l = vcpuAt-count k (withVcpu m i w) i ∙ get-put m i w l
 
 pub notice-new : (m : Module) (i : ℕ) (p : Bytes) (a b : ℕ) → step m (at i (notice p)) .result ≡ counted a b
     → a ≡ itemCount (λ x. pending x (vcpuAt (next m (at i (notice p))) i) && not (pending x (vcpuAt m i)))
@@ -124,14 +120,14 @@ unfolding itemsNew itemsMerged
 together a v = item-count-split (λ x. inPart x a) (λ x. pending x v)
 
 -- a part without a level-sensitive vector, and one with a vector that is not in its edge set
-apart : (n : Bool) (f : ℕ → Bool) (o : Option ℕ) → ((x : ℕ) → o ≡ some x → (x < 256) × (f x ≡ false))
-    → let a : Part = record { nmi = n; level = o; edge = collect f } in itemCount (λ x. inPart x a) ≡ items a
+apart : (n c : Bool) (f : ℕ → Bool) (o : Option ℕ) → ((x : ℕ) → o ≡ some x → (x < 256) × (f x ≡ false))
+    → let a : Part = record { nmi = n; machineCheck = c; level = o; edge = collect f } in itemCount (λ x. inPart x a) ≡ items a
 unfolding itemCount items
-apart n f none h =
+apart n c f none h =
     let e : count (collect (λ v. has (collect f) v || false)) ≡ count (collect f) =
     ap count (collect-ext (λ v. has (collect f) v || false) f (λ v l. or-false (has (collect f) v) ∙ has-collect f v l)) in
     omega arith
-apart n f (some x) h =
+apart n c f (some x) h =
     let e : count (collect (λ v. has (collect f) v || eqb v x)) ≡ count (collect f) + 1 =
     ap count (collect-ext (λ v. has (collect f) v || eqb v x) (λ v. f v || eqb v x) (λ v l. ap (λ (t : Bool). t || eqb v x) (has-collect f v l)))
     ∙ count-with f x (h x refl .0) (h x refl .1) in
@@ -168,8 +164,9 @@ unfolding admitted admits noPart empty
 admitted-sum l a p = pick (announces l p)
   where
     pick : (b : Bool) → itemCount (λ x. inPart x (cond b (admits a (descriptor l p)) noPart)) ≡ items (cond b (admits a (descriptor l p)) noPart)
-    pick true = apart (admitsNmi a (descriptor l p)) (admitsEdge a (descriptor l p)) (admitsLevel a (descriptor l p)) (level-apart a (descriptor l p))
-    pick false = apart false (λ v. false) none (λ x e. clash (cc))
+    pick true =
+        apart (admitsMark nmiBit 2 a (descriptor l p)) (admitsMark machineCheckBit 18 a (descriptor l p)) (admitsEdge a (descriptor l p)) (admitsLevel a (descriptor l p)) (level-apart a (descriptor l p))
+    pick false = apart false false (λ v. false) none (λ x e. clash (cc))
 
 pub items-sum : (l : ℕ) (a p : List ℕ) (v : Vcpu) → itemsNew (admitted l a p) v + itemsMerged (admitted l a p) v ≡ items (admitted l a p)
 items-sum l a p v = together (admitted l a p) v ∙ admitted-sum l a p

@@ -11,8 +11,8 @@ use lib.ListN.{length, getD, drop, length-append, length-take, length-drop, List
 use lib.Seq.{ext-getD, getD-take, getD-drop}
 use borrow.Author.Tests.{leb-true, leb-false, le-leb, lt-leb, eqb-true, eq-eqb, ne-eqb}
 use Rattle.model.specs.declared.Vcpu.{Vcpu}
-use Rattle.model.specs.Doorbell.{bitOf, bytesFrom, mapBits, announcingBit, announces, descriptor, vectorField, nmiBit, levelBit, manyBit, isVector}
-use Rattle.model.specs.Doorbell.{isLevel, admitsNmi, admitsLevel, admitsEdge, admits, admitted, handedBit, servingBit, handedBytes, written}
+use Rattle.model.specs.Doorbell.{bitOf, bytesFrom, mapBits, announcingBit, announces, descriptor, vectorField, nmiBit, machineCheckBit, levelBit, manyBit, isVector}
+use Rattle.model.specs.Doorbell.{isLevel, admitsMark, admitsLevel, admitsEdge, admits, admitted, handedBit, servingBit, handedBytes, written}
 use Rattle.model.specs.Events.{handed}
 use Rattle.model.specs.Demand2.{announce, pendingPart}
 use Rattle.model.specs.Reached.{Levelled, Sound}
@@ -38,7 +38,7 @@ handed-length v = simp (length-append, bytesFrom-length)
 
 -- the first 32 bytes, by their bits
 handedAt : Vcpu → ℕ → Bool
-handedAt v = handedBit (v .irr) (v .«irr_level») (v .nmi)
+handedAt v = handedBit (v .irr) (v .«irr_level») (v .nmi) (v .«machine_check»)
 
 handed-at : (v : Vcpu) (j : ℕ) → j < 32 → getD (handed v) j 0 ≡ bits (handedAt v) (8 * (0 + j)) 8
 unfolding handed handedBytes handedAt
@@ -123,6 +123,10 @@ module _ (v : Vcpu) (sound : Levelled (v .irr) (v .«irr_level»)) where
   unfolding handedAt handedBit
   bit-nmi = bit 8 (omega arith) ∙ simp or-false
 
+  bit-machine-check : bitOf d machineCheckBit ≡ v .«machine_check»
+  unfolding handedAt handedBit
+  bit-machine-check = bit 9 (omega arith) ∙ simp or-false
+
   bit-level : bitOf d levelBit ≡ not (isEmpty (v .«irr_level»))
   unfolding handedAt handedBit
   bit-level = bit 10 (omega arith) ∙ simp or-false
@@ -138,6 +142,7 @@ module _ (v : Vcpu) (sound : Levelled (v .irr) (v .«irr_level»)) where
       ∙ rw (
         lt-leb x 7 (omega arith),
         eqb-above x 8 (omega arith),
+        eqb-above x 9 (omega arith),
         eqb-above x 10 (omega arith),
         eqb-above x 14 (omega arith),
         le-leb 31 x g,
@@ -147,7 +152,14 @@ module _ (v : Vcpu) (sound : Levelled (v .irr) (v .«irr_level»)) where
   bit-field : (b : ℕ) → b < 8 → handedAt v b ≡ bitAt (Option·getD (highest (v .«irr_level»)) 0) b
   unfolding handedAt handedBit
   bit-field b h =
-      rw (le-leb b 7 (omega arith), eqb-below b 8 (omega arith), eqb-below b 10 (omega arith), eqb-below b 14 (omega arith), lt-leb 31 b (omega arith))
+      rw (
+        le-leb b 7 (omega arith),
+        eqb-below b 8 (omega arith),
+        eqb-below b 9 (omega arith),
+        eqb-below b 10 (omega arith),
+        eqb-below b 14 (omega arith),
+        lt-leb 31 b (omega arith),
+      )
       (simp or-false)
 
   -- bits 7:0
@@ -168,9 +180,10 @@ module _ (v : Vcpu) (sound : Levelled (v .irr) (v .«irr_level»)) where
       let a = highest-has (v .«irr_level») x e in
       levelled-low (v .irr) (v .«irr_level») sound x (sound .within x (a .1) (a .0))
 
-  reads-nmi : admitsNmi full d ≡ v .nmi
-  unfolding admitsNmi
-  reads-nmi = rw (bit-nmi, has-full 2 (omega arith)) (and-true (v .nmi))
+  -- an item with a mark
+  reads-mark : (k x : ℕ) {b : Bool} → x < 256 → bitOf d k ≡ b → admitsMark k x full d ≡ b
+  unfolding admitsMark
+  reads-mark k x {b} h e = rw (e, has-full x h) (and-true b)
 
   reads-level : admitsLevel full d ≡ highest (v .«irr_level»)
   unfolding admitsLevel isEmpty
@@ -233,7 +246,12 @@ module _ (v : Vcpu) (sound : Levelled (v .irr) (v .«irr_level»)) where
 
   reads : admits full d ≡ pendingPart v
   unfolding admits pendingPart difference
-  reads = rw (reads-nmi, reads-level, collect-ext (admitsEdge full d) (λ x. irr x && not (level x)) reads-edge)
+  reads = rw (
+    reads-mark nmiBit 2 (omega arith) bit-nmi,
+    reads-mark machineCheckBit 18 (omega arith) bit-machine-check,
+    reads-level,
+    collect-ext (admitsEdge full d) (λ x. irr x && not (level x)) reads-edge,
+  )
 
 -- ---- the read-back of the page that a hand-back leaves, from any sound record
 pub read-back : (l : ℕ) (v : Vcpu) (p : List ℕ) → Sound v → 1 ≤ l → l ≤ 3 → 256 ≤ length p

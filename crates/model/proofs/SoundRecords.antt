@@ -76,6 +76,8 @@ pub sound-mark : (y : Item) (v : Vcpu) → IsVector y → Sound v → Sound (mar
 unfolding mark
 sound-mark item.Nmi v q h =
     record { words = h .words; nameable = h .nameable; irr = h .irr; isr = h .isr; inService = h .inService; inactive = h .inactive }
+sound-mark item.MachineCheck v q h =
+    record { words = h .words; nameable = h .nameable; irr = h .irr; isr = h .isr; inService = h .inService; inactive = h .inactive }
 sound-mark (item.Vector x) v q h =
     record {
       words = h .words;
@@ -140,12 +142,13 @@ sound-call (request.Refused c) i k v q h = h
 abbrev Shown : Answer → Type 0
 Shown nothing = Unit {0}
 Shown (presents item.Nmi) = Unit {0}
+Shown (presents item.MachineCheck) = Unit {0}
 Shown (presents (item.Vector x)) = (31 ≤ x) × (x < 256)
 Shown (window x) = Unit {0}
 
 shown-offer : (iF sh bl : Bool) (v : Vcpu) → Sound v → Shown (offer iF sh bl v)
 unfolding offer offerHighest
-shown-offer iF sh bl v h = pick (v .nmi && not (sh || bl))
+shown-offer iF sh bl v h = first (v .«machine_check»)
   where
     over : (a b : Bool) (x : ℕ) → highest (v .irr) ≡ some x → Shown (cond a nothing (cond b (presents (item.Vector x)) (window x)))
     over true b x e = tt
@@ -160,11 +163,19 @@ shown-offer iF sh bl v h = pick (v .nmi && not (sh || bl))
     pick true = tt
     pick false = high (highest (v .irr)) refl
 
+    first : (b : Bool)
+        → Shown (cond b (presents item.MachineCheck)
+        (cond (v .nmi && not (sh || bl)) (presents item.Nmi) (offerHighest (iF && not sh) (ppr v) (highest (v .irr)))))
+    first true = tt
+    first false = pick (v .nmi && not (sh || bl))
+
 -- on an active vCPU
 sound-entered : (a : Answer) (v : Vcpu) → Shown a → isActive (v .phase) ≡ true → Sound v → Sound (entered a (forget v))
 unfolding entered present unmark
 sound-entered nothing v q on h = sound-forget v h
 sound-entered (presents item.Nmi) v q on h =
+    record { words = h .words; nameable = h .nameable; irr = h .irr; isr = h .isr; inService = λ x e. clash (cc); inactive = λ e. clash (cc) }
+sound-entered (presents item.MachineCheck) v q on h =
     record { words = h .words; nameable = h .nameable; irr = h .irr; isr = h .isr; inService = λ x e. clash (cc); inactive = λ e. clash (cc) }
 sound-entered (presents (item.Vector x)) v q on h =
     record {
@@ -188,12 +199,14 @@ returned-flying v h = go (v .flight) refl
     go : (f : InFlight) → v .flight ≡ f → Returned (itemInFlight f)
     go flight.Nothing e = tt
     go flight.Nmi e = tt
+    go flight.MachineCheck e = tt
     go (flight.Vector x) e = levelled-low (v .isr) _ (h .isr) x (h .inService x e)
 
 sound-undelivered : (o : Option Item) (v : Vcpu) → Returned o → Sound v → Sound (undelivered o v)
 unfolding undelivered giveBack mark
 sound-undelivered none v q h = sound-forget v h
 sound-undelivered (some item.Nmi) v q h = at-rest _ (h .words) (h .nameable) (h .irr) (h .isr) refl
+sound-undelivered (some item.MachineCheck) v q h = at-rest _ (h .words) (h .nameable) (h .irr) (h .isr) refl
 sound-undelivered (some (item.Vector x)) v q h =
     at-rest _ (h .words) (h .nameable) (levelled-gains x (v .«isr_level») (v .irr) (v .«irr_level») q (h .irr))
     (levelled-remove x (v .isr) (v .«isr_level») (h .isr)) refl

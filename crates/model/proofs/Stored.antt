@@ -1,6 +1,6 @@
 -- A module's record after one was stored and after an IPI, and the step of an event by its verdict: the laws on which all claims stand.
 -- Assumes nothing.
-use mathlib.Core.Path.{_≡_, refl, sym, subst}
+use mathlib.Core.Path.{_≡_, refl, sym, subst, _∙_}
 use mathlib.Core.Bool.{Bool, true, false, cond, _&&_, and-false}
 use mathlib.Core.List.{List, [], _∷_}
 use Prim.Native.Nat.{ℕ, zero, suc, _+_, _<_, _≤_, zero-le}
@@ -44,6 +44,10 @@ get-put m i v l = getD-set-same (m .vcpus) i v absent l
 pub vcpuAt-count : (k : ℕ) (m : Module) (j : ℕ) → vcpuAt (withRegistrations k m) j ≡ vcpuAt m j
 unfolding vcpuAt withRegistrations
 vcpuAt-count k m j = refl
+
+-- the record that was stored, with a count
+pub stored-at : (m : Module) (i k : ℕ) (w : Vcpu) → i < length (m .vcpus) → vcpuAt (withRegistrations k (withVcpu m i w)) i ≡ w
+stored-at m i k w l = vcpuAt-count k (withVcpu m i w) i ∙ get-put m i w l
 
 pub size-put : (m : Module) (i : ℕ) (v : Vcpu) → size (withVcpu m i v) ≡ size m
 unfolding size withVcpu

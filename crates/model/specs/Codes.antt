@@ -70,6 +70,7 @@ admissionResult (admission.Refused c) = refused (codeOf c)
 abbrev pub presentedResult : Presentation → Result
 presentedResult presentation.Nothing = answers nothing
 presentedResult presentation.Nmi = answers (presents item.Nmi)
+presentedResult presentation.MachineCheck = answers (presents item.MachineCheck)
 presentedResult (presentation.Vector v) = answers (presents (item.Vector v))
 presentedResult (presentation.Window v) = answers (window v)
 presentedResult (presentation.Refused c) = refused (codeOf c)

@@ -1,20 +1,21 @@
--- Demand 2: the gate is what kernels expect (13.6 to 13.18, 13.35 to 13.52). That each event's result, module and page are those of
+-- Demand 2: the gate is what kernels expect (13.6 to 13.18, 13.35 to 13.60). That each event's result, module and page are those of
 -- `step` and `start` is said by the functions' contracts; here is what else is claimed of them.
 -- Assumes nothing.
 use mathlib.Core.Path.{_≡_}
 use mathlib.Core.Bool.{Bool, true, false, cond, not, _&&_, _||_}
-use mathlib.Core.List.{List}
+use mathlib.Core.List.{List, map}
+use mathlib.Core.Option.{some}
 use Prim.Native.Nat.{ℕ, _+_, _^_, _<_, _≤_}
 use lib.Bits.{bitOr}
 use lib.Dec.{eqb}
 use Rattle.model.specs.declared.Item.{Item}
-use Rattle.model.specs.declared.Item.the-variants.{Vector}
+use Rattle.model.specs.declared.Item.the-variants.{MachineCheck, Vector}
 use Rattle.model.specs.declared.InFlight.the-variants.{Nothing}
 use Rattle.model.specs.declared.Vcpu.{Vcpu}
 use Rattle.model.specs.declared.Module.{Module}
-use Rattle.model.specs.State.{isActive, size, vcpuAt, start, withVcpu, withIrrLevel, withIcr, withFlight}
-use Rattle.model.specs.Codes.{done, counted}
-use Rattle.model.specs.Items.{InRange, itemCount, pending, unmarkAll}
+use Rattle.model.specs.State.{isActive, size, vcpuAt, start, withVcpu, withIrrLevel, withMachineCheck, withIcr, withFlight}
+use Rattle.model.specs.Codes.{Answer, presents, done, counted, answers, presentedIn}
+use Rattle.model.specs.Items.{InRange, hasMark, isItem, itemCount, itemInFlight, flightOf, pending, unmarkAll}
 use Rattle.model.specs.Doorbell.{mapBits, announcingBit, Part, isLevel, inPart, admitted, items}
 use Rattle.model.specs.Registers.{within}
 use Rattle.model.specs.Ipi.{icrLegal, icrItem, icrTarget, hits}
@@ -29,9 +30,15 @@ use Rattle.vector_set.specs.Sets.{has, empty, full, difference, highest}
 unfoldable pub announce : ℕ → Bytes → Bytes
 announce l p = mapBits (λ k b. b || eqb k (announcingBit l)) p
 
--- the NMI, the highest level-sensitive vector and the edge set that are pending at a record (13.11)
+-- the NMI, the machine check, the highest level-sensitive vector and the edge set that are pending at a record (13.11)
 unfoldable pub pendingPart : Vcpu → Part
-pendingPart v = record { nmi = v .nmi; level = highest (v .«irr_level»); edge = difference (v .irr) (v .«irr_level») }
+pendingPart v =
+    record {
+      nmi = v .nmi;
+      machineCheck = v .«machine_check»;
+      level = highest (v .«irr_level»);
+      edge = difference (v .irr) (v .«irr_level»);
+    }
 
 -- after the hand-back of the vCPU i on the module m, if it is accepted, the notice rule reads in the page what was pending before it (13.10 to 13.12)
 abbrev pub ReadsBack : Module → ℕ → Bytes → Bool → Bool → Type 0
@@ -75,6 +82,11 @@ pub record SameWrite (m : Module) (i x y : ℕ) : Type 0 where
   pub result : step m (writesIcr i x) .result ≡ step m (writesIcr i y) .result
   pub after : withIcrAt i 0 (next m (writesIcr i x)) ≡ withIcrAt i 0 (next m (writesIcr i y))
 
+-- ---- the machine check
+-- a module with no machine check pending
+unfoldable pub unchecked : Module → Module
+unchecked m = record { n = m .n; vmpl = m .vmpl; registrations = m .registrations; vcpus = map (withMachineCheck false) (m .vcpus) }
+
 -- ---- the claim
 -- a request: a notice, or a guest call, which may be an IPI
 abbrev pub isRequest : Act Bytes → Bool
@@ -108,7 +120,7 @@ pub record Demand2 : Type 0 where
   -- of every module value: a read right after an accepted write gives what was written (13.37)
   pub icrReads : (m : Module) (i x z r : ℕ) → step m (writesIcr i x) .result ≡ done r
       → step (next m (writesIcr i x)) (at i (call 2 0x830 z)) .result ≡ done x
-  -- of every module value: P and the NMI mark apart, an accepted write changes the caller's ICR and what is in flight there, and no other record (13.40)
+  -- of every module value: P and the marks apart, an accepted write changes the caller's ICR and what is in flight there, and no other record (13.40)
   pub icrTouches : (m : Module) (i x j r : ℕ) → step m (writesIcr i x) .result ≡ done r
       → unmarkAll (vcpuAt (next m (writesIcr i x)) j) ≡ unmarkAll (cond (eqb j i) (withIcr x (withFlight Nothing (vcpuAt m j))) (vcpuAt m j))
   -- of every module value: a notice's first number counts the items that were not pending at its vCPU before it and are after it (13.42)
@@ -137,8 +149,35 @@ pub record Demand2 : Type 0 where
       → withIrrLevel empty (unmarkAll (vcpuAt (next m (at i (notice p))) j)) ≡ withIrrLevel empty (unmarkAll (vcpuAt m j))
   -- of every module value: after an accepted self-IPI its vector is pending at the caller (13.48)
   pub selfReaches : (m : Module) (i x r : ℕ) → step m (sendsSelf i x) .result ≡ done r → pending (Vector x) (vcpuAt (next m (sendsSelf i x)) i) ≡ true
-  -- P and the NMI mark apart, it changes what is in flight at the caller and nothing else (13.49)
+  -- P and the marks apart, it changes what is in flight at the caller and nothing else (13.49)
   pub selfTouches : (m : Module) (i x j r : ℕ) → step m (sendsSelf i x) .result ≡ done r
       → unmarkAll (vcpuAt (next m (sendsSelf i x)) j) ≡ unmarkAll (cond (eqb j i) (withFlight Nothing (vcpuAt m j)) (vcpuAt m j))
   -- of every module value: no event changes a place at n or above (13.50)
   pub keepsBeyond : (m : Module) (e : Event) (j : ℕ) → size m ≤ j → vcpuAt (next m e) j ≡ vcpuAt m j
+  -- of every module value: an accepted entry presents the machine check exactly where it is pending, whatever else is pending, in service or held back
+  -- (13.53)
+  pub checksFirst : (m : Module) (i : ℕ) (iF sh bl : Bool) (a : Answer) → step m (at i (entry iF sh bl)) .result ≡ answers a
+      → isItem MachineCheck (presentedIn a) ≡ pending MachineCheck (vcpuAt m i)
+  -- of every module value: after an accepted entry what it presented is pending there no more, and of every other item nothing changed (13.54)
+  pub entryPends : (m : Module) (i : ℕ) (iF sh bl : Bool) (a : Answer) (x : Item) → InRange x → step m (at i (entry iF sh bl)) .result ≡ answers a
+      → pending x (vcpuAt (next m (at i (entry iF sh bl))) i) ≡ (not (isItem x (presentedIn a)) && pending x (vcpuAt m i))
+  -- and one that presents an item with a mark changes, P and the marks apart, what is in flight there and nothing else (13.55)
+  pub entryTouches : (m : Module) (i : ℕ) (iF sh bl : Bool) (y : Item) (j : ℕ) → hasMark y ≡ true
+      → step m (at i (entry iF sh bl)) .result ≡ answers (presents y)
+      → unmarkAll (vcpuAt (next m (at i (entry iF sh bl))) j) ≡ unmarkAll (cond (eqb j i) (withFlight (flightOf y) (vcpuAt m j)) (vcpuAt m j))
+  -- of every module value: after an accepted non-delivery what was pending there and what was in flight is pending there, and nothing else (13.56)
+  pub returnPends : (m : Module) (i r : ℕ) (x : Item) → InRange x → step m (at i nonDelivery) .result ≡ done r
+      → pending x (vcpuAt (next m (at i nonDelivery)) i) ≡ (isItem x (itemInFlight (vcpuAt m i .flight)) || pending x (vcpuAt m i))
+  -- and one of an item with a mark changes, P and the marks apart, what is in flight there and nothing else (13.57)
+  pub returnTouches : (m : Module) (i r : ℕ) (y : Item) (j : ℕ) → hasMark y ≡ true → itemInFlight (vcpuAt m i .flight) ≡ some y
+      → step m (at i nonDelivery) .result ≡ done r
+      → unmarkAll (vcpuAt (next m (at i nonDelivery)) j) ≡ unmarkAll (cond (eqb j i) (withFlight Nothing (vcpuAt m j)) (vcpuAt m j))
+  -- of every module value: after an accepted hand-back nothing is pending there (13.58)
+  pub handBackEmpties : (m : Module) (i r : ℕ) (p : Bytes) (iF sh : Bool) (x : Item) → InRange x → step m (at i (handBack p iF sh)) .result ≡ done r
+      → pending x (vcpuAt (next m (at i (handBack p iF sh))) i) ≡ false
+  -- of every module value: a guest call, an IPI among them, changes the mark of no machine check (13.59)
+  pub callsKeepChecks : (m : Module) (i op c x j : ℕ) → vcpuAt (next m (at i (call op c x))) j .«machine_check» ≡ vcpuAt m j .«machine_check»
+  -- nor does it read one: with all of them cleared it has the same result, and it leaves the same module with all of them cleared (13.60)
+  pub callsApart : (m : Module) (i op c x : ℕ)
+      → (step (unchecked m) (at i (call op c x)) .result ≡ step m (at i (call op c x)) .result)
+      × (next (unchecked m) (at i (call op c x)) ≡ unchecked (next m (at i (call op c x))))

@@ -8,6 +8,7 @@ use lib.Dec.{leb, ltb, eqb}
 use lib.ListN.{length, getD, take, drop}
 use Rattle.model.specs.declared.Item.{Item}
 use Rattle.model.specs.declared.Item.the-variants as item
+use Rattle.model.specs.Items.{memberOf}
 use Rattle.vector_set.specs.Bits.{one, bitAt, bits}
 use Rattle.vector_set.specs.Sets.{has, collect, empty, highest, count, isEmpty}
 pub use Rattle.vector_set.specs.Sets.{isVector}
@@ -55,6 +56,10 @@ vectorField d = getD d 0 0
 abbrev pub nmiBit : ℕ
 nmiBit = 8
 
+-- the bit for the machine check (4.11)
+abbrev pub machineCheckBit : ℕ
+machineCheckBit = 9
+
 -- the bit that makes the single vector level-sensitive (4.12)
 abbrev pub levelBit : ℕ
 levelBit = 10
@@ -67,12 +72,13 @@ manyBit = 14
 -- the admitted part (a term of document 01): nothing else of a page reaches the record (4.14)
 pub record Part : Type 0 where
   pub nmi : Bool
+  pub machineCheck : Bool
   pub level : Option ℕ
   pub edge : List ℕ
 
 -- nothing is admitted (4.20)
 unfoldable pub noPart : Part
-noPart = record { nmi = false; level = none; edge = empty }
+noPart = record { nmi = false; machineCheck = false; level = none; edge = empty }
 
 -- v is the vector that there may be
 abbrev pub isLevel : Option ℕ → ℕ → Bool
@@ -82,11 +88,12 @@ isLevel (some x) v = eqb v x
 -- the item x is in a part
 abbrev pub inPart : Item → Part → Bool
 inPart item.Nmi a = a .nmi
+inPart item.MachineCheck a = a .machineCheck
 inPart (item.Vector v) a = has (a .edge) v || isLevel (a .level) v
 
--- the NMI is admitted (4.16)
-unfoldable pub admitsNmi : List ℕ → List ℕ → Bool
-admitsNmi a d = bitOf d nmiBit && has a 2
+-- an item with a mark is admitted: bit k of the descriptor asks for it, and x stands for it in the set A (4.16, 4.40)
+unfoldable pub admitsMark : ℕ → ℕ → List ℕ → List ℕ → Bool
+admitsMark k x a d = bitOf d k && has a x
 
 -- the single vector, admitted as level-sensitive (4.17, 4.22, 4.23)
 unfoldable pub admitsLevel : List ℕ → List ℕ → Option ℕ
@@ -101,7 +108,13 @@ admitsEdge a d v =
 
 -- the admitted part of a descriptor under the set A (4.15)
 unfoldable pub admits : List ℕ → List ℕ → Part
-admits a d = record { nmi = admitsNmi a d; level = admitsLevel a d; edge = collect (admitsEdge a d) }
+admits a d =
+    record {
+      nmi = admitsMark nmiBit (memberOf item.Nmi) a d;
+      machineCheck = admitsMark machineCheckBit (memberOf item.MachineCheck) a d;
+      level = admitsLevel a d;
+      edge = collect (admitsEdge a d);
+    }
 
 -- the admitted part of a page under the set A, at the VMPL l (4.6, 4.20)
 unfoldable pub admitted : ℕ → List ℕ → List ℕ → Part
@@ -113,7 +126,7 @@ isSome (some v) = true
 
 -- the number of admitted items, new and merged together (4.30)
 unfoldable pub items : Part → ℕ
-items a = one (a .nmi) + one (isSome (a .level)) + count (a .edge)
+items a = one (a .nmi) + one (a .machineCheck) + one (isSome (a .level)) + count (a .edge)
 
 -- ---- the page after a notice
 -- k is a bit of the descriptor that is cleared, given its bit 14 (4.31, 4.32, 4.34, 4.35)
@@ -136,11 +149,12 @@ noticedPage l p =
     cond (announces l p) (mapBits (λ k b. b && not (clears l (bitOf (descriptor l p) manyBit) k)) p) p
 
 -- ---- the page after a hand-back
--- bit k of the descriptor for P, PL and the NMI mark (10.5 to 10.9, 10.11)
-unfoldable pub handedBit : List ℕ → List ℕ → Bool → ℕ → Bool
-handedBit irr level nmi k =
+-- bit k of the descriptor for P, PL and the marks of the NMI and of the machine check (10.5 to 10.9, 10.11, 10.17)
+unfoldable pub handedBit : List ℕ → List ℕ → Bool → Bool → ℕ → Bool
+handedBit irr level nmi mc k =
     (leb k 7 && bitAt (Option·getD (highest level) 0) k)
     || (eqb k nmiBit && nmi)
+    || (eqb k machineCheckBit && mc)
     || (eqb k levelBit && not (isEmpty level))
     || (eqb k manyBit && not (isEmpty (collect (λ v. isVector v && has irr v && not (has level v)))))
     || (isVector k && has irr k && not (has level k))
@@ -150,9 +164,9 @@ unfoldable pub servingBit : List ℕ → List ℕ → ℕ → Bool
 servingBit isr level k = isVector k && has isr k && not (has level k)
 
 -- the 64 bytes that a hand-back writes (10.4)
-unfoldable pub handedBytes : List ℕ → List ℕ → Bool → List ℕ → List ℕ → List ℕ
-handedBytes irr irrLevel nmi isr isrLevel =
-    bytesFrom (handedBit irr irrLevel nmi) 0 32 ++ bytesFrom (servingBit isr isrLevel) 0 32
+unfoldable pub handedBytes : List ℕ → List ℕ → Bool → Bool → List ℕ → List ℕ → List ℕ
+handedBytes irr irrLevel nmi mc isr isrLevel =
+    bytesFrom (handedBit irr irrLevel nmi mc) 0 32 ++ bytesFrom (servingBit isr isrLevel) 0 32
 
 -- the page with 64 bytes written where the descriptor begins (10.3)
 unfoldable pub written : ℕ → List ℕ → List ℕ → List ℕ

@@ -7,7 +7,7 @@ use Prim.Native.Nat.{ℕ, _+_, _*_}
 use lib.Dec.{leb, ltb, eqb}
 use Rattle.model.specs.declared.Phase.the-variants.{Left}
 use Rattle.model.specs.declared.Item.{Item}
-use Rattle.model.specs.declared.Item.the-variants.{Nmi, Vector}
+use Rattle.model.specs.declared.Item.the-variants.{Nmi, MachineCheck, Vector}
 use Rattle.model.specs.declared.Refusal.{Refusal}
 use Rattle.model.specs.declared.Refusal.the-variants.{UnknownVcpu, ShortPage, NotLeaving, NothingInFlight, BadStart, NotActive}
 use Rattle.model.specs.declared.Request.{Request}
@@ -73,7 +73,7 @@ unfoldable pub noticed : Part → Vcpu → Vcpu
 noticed a v =
     withIrrLevel (collect (λ x. has (v .«irr_level») x || isLevel (a .level) x)) (markAll (λ x. inPart x a) v)
 
--- of the items of a part, how many become pending at a record, and how many were pending there: asked of P and of the NMI mark (4.29, 4.37 to 4.39)
+-- of the items of a part, how many become pending at a record, and how many were pending there: asked of P and of the marks (4.29, 4.37 to 4.39)
 unfoldable pub itemsNew : Part → Vcpu → ℕ
 itemsNew a v = itemCount (λ x. inPart x a && not (pending x v))
 
@@ -85,18 +85,20 @@ unfoldable pub offerHighest : Bool → ℕ → Option ℕ → Answer
 offerHighest ready p none = nothing
 offerHighest ready p (some x) = cond (leb (class x) (class p)) nothing (cond ready (presents (Vector x)) (window x))
 
--- what an entry answers: the NMI before any vector (8.6, 8.7, 8.10, 8.16)
+-- what an entry answers: the machine check before all else, the NMI before any vector (8.6, 8.7, 8.10, 8.16 to 8.18)
 unfoldable pub offer : Bool → Bool → Bool → Vcpu → Answer
 offer iF sh bl v =
-    cond (v .nmi && not (sh || bl)) (presents Nmi) (offerHighest (iF && not sh) (ppr v) (highest (v .irr)))
+    cond (v .«machine_check») (presents MachineCheck)
+    (cond (v .nmi && not (sh || bl)) (presents Nmi) (offerHighest (iF && not sh) (ppr v) (highest (v .irr))))
 
 -- the set t, with x if the set s has x
 abbrev pub gains : ℕ → List ℕ → List ℕ → List ℕ
 gains x s t = collect (λ v. has t v || (eqb v x && has s x))
 
--- an item is presented: a vector is then in service, and level-sensitive there if it was so while pending (8.6, 8.11, 8.12)
+-- an item is presented: a vector is then in service, and level-sensitive there if it was so while pending (8.6, 8.11, 8.12, 8.17, 8.19)
 unfoldable pub present : Item → Vcpu → Vcpu
 present Nmi v = unmark Nmi v
+present MachineCheck v = unmark MachineCheck v
 present (Vector x) v =
     withIsrLevel (gains x (v .«irr_level») (v .«isr_level»))
     (withIrrLevel (remove x (v .«irr_level»)) (withIsr (insert x (v .isr)) (unmark (Vector x) v)))
@@ -107,9 +109,10 @@ entered nothing v = v
 entered (presents y) v = withFlight (flightOf y) (present y v)
 entered (window x) v = v
 
--- an item is returned: a vector is then pending, and level-sensitive there if it was so in service (9.3 to 9.6)
+-- an item is returned: a vector is then pending, and level-sensitive there if it was so in service (9.3 to 9.6, 9.9)
 unfoldable pub giveBack : Item → Vcpu → Vcpu
 giveBack Nmi v = mark Nmi v
+giveBack MachineCheck v = mark MachineCheck v
 giveBack (Vector x) v =
     withIrrLevel (gains x (v .«isr_level») (v .«irr_level»))
     (withIsrLevel (remove x (v .«isr_level»)) (withIsr (remove x (v .isr)) (mark (Vector x) v)))
@@ -126,7 +129,7 @@ emptied v =
 
 -- the 64 bytes that describe a record (10.4)
 unfoldable pub handed : Vcpu → Bytes
-handed v = handedBytes (v .irr) (v .«irr_level») (v .nmi) (v .isr) (v .«isr_level»)
+handed v = handedBytes (v .irr) (v .«irr_level») (v .nmi) (v .«machine_check») (v .isr) (v .«isr_level»)
 
 -- the number that a hand-back gives (10.12)
 unfoldable pub handBackResult : ℕ → ℕ → Bool → Bool → ℕ

@@ -12,3 +12,4 @@ pub mod Demand1
 pub mod Demand2
 pub mod Cases
 pub mod Worked
+pub mod WorkedChecks

@@ -19,7 +19,7 @@ pub record Levelled (s t : List ℕ) : Type 0 where
 
 -- what holds of each record (13.13 to 13.16)
 pub record Sound (v : Vcpu) : Type 0 where
-  -- A holds 2 and 31 to 255 alone
+  -- A holds 2, 18 and 31 to 255 alone
   pub words : Words (v .allowed)
   pub nameable : (x : ℕ) → x < 256 → has (v .allowed) x ≡ true → mayName x ≡ true
   pub irr : Levelled (v .irr) (v .«irr_level»)

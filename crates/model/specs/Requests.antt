@@ -54,9 +54,9 @@ writeBy kind.Read r x = bad
 writeBy kind.Write r x = writeValue r x
 writeBy kind.Both r x = writeValue r x
 
--- a member that an allowed set may have: the NMI's, or a vector (5.17)
+-- a member that an allowed set may have: the NMI's, the machine check's, or a vector (5.17)
 abbrev pub mayName : ℕ → Bool
-mayName x = eqb x 2 || isVector x
+mayName x = eqb x 2 || eqb x 18 || isVector x
 
 -- ECX of call 4 is within the rule (5.17, 5.18)
 unfoldable pub nameable : ℕ → Bool

@@ -9,7 +9,7 @@ use lib.ListN.{getD, set, replicate}
 use Rattle.model.specs.declared.Phase.{Phase}
 use Rattle.model.specs.declared.Phase.the-variants.{Active, Leaving, Left}
 use Rattle.model.specs.declared.InFlight.{InFlight}
-use Rattle.model.specs.declared.InFlight.the-variants.{Nothing, Nmi, Vector}
+use Rattle.model.specs.declared.InFlight.the-variants.{Nothing, Nmi, MachineCheck, Vector}
 use Rattle.model.specs.declared.Vcpu.{Vcpu}
 use Rattle.model.specs.declared.Module.{Module}
 use Rattle.vector_set.specs.Sets.{empty}
@@ -30,12 +30,13 @@ isLeaving Left = false
 abbrev pub isInFlight : InFlight → Bool
 isInFlight Nothing = false
 isInFlight Nmi = true
+isInFlight MachineCheck = true
 isInFlight (Vector v) = true
 
--- ---- a record by its fields: A, P, S, PL, SL, the NMI mark, TPR, ICR, the phase, what is in flight
--- the record with these fields (2.3, 2.8 to 2.12)
-abbrev pub vcpu : List ℕ → List ℕ → List ℕ → List ℕ → List ℕ → Bool → ℕ → ℕ → Phase → InFlight → Vcpu
-vcpu a p s pl sl nmi tpr icr ph fl =
+-- ---- a record by its fields: A, P, S, PL, SL, the marks of the NMI and of the machine check, TPR, ICR, the phase, what is in flight
+-- the record with these fields (2.3, 2.8 to 2.12, 2.16)
+abbrev pub vcpu : List ℕ → List ℕ → List ℕ → List ℕ → List ℕ → Bool → Bool → ℕ → ℕ → Phase → InFlight → Vcpu
+vcpu a p s pl sl nmi mc tpr icr ph fl =
     record {
       allowed = a;
       irr = p;
@@ -43,6 +44,7 @@ vcpu a p s pl sl nmi tpr icr ph fl =
       «irr_level» = pl;
       «isr_level» = sl;
       nmi = nmi;
+      «machine_check» = mc;
       tpr = tpr;
       icr = icr;
       phase = ph;
@@ -51,7 +53,7 @@ vcpu a p s pl sl nmi tpr icr ph fl =
 
 -- a record with nothing in it, in a phase (3.4)
 unfoldable pub bare : Phase → Vcpu
-bare p = vcpu empty empty empty empty empty false 0 0 p Nothing
+bare p = vcpu empty empty empty empty empty false false 0 0 p Nothing
 
 -- a fresh record (3.3, 3.4)
 abbrev pub fresh : Vcpu
@@ -63,34 +65,37 @@ absent = bare Left
 
 -- a record with one field changed
 abbrev pub withAllowed : List ℕ → Vcpu → Vcpu
-withAllowed x v = vcpu x (v .irr) (v .isr) (v .«irr_level») (v .«isr_level») (v .nmi) (v .tpr) (v .icr) (v .phase) (v .flight)
+withAllowed x v = vcpu x (v .irr) (v .isr) (v .«irr_level») (v .«isr_level») (v .nmi) (v .«machine_check») (v .tpr) (v .icr) (v .phase) (v .flight)
 
 abbrev pub withIrr : List ℕ → Vcpu → Vcpu
-withIrr x v = vcpu (v .allowed) x (v .isr) (v .«irr_level») (v .«isr_level») (v .nmi) (v .tpr) (v .icr) (v .phase) (v .flight)
+withIrr x v = vcpu (v .allowed) x (v .isr) (v .«irr_level») (v .«isr_level») (v .nmi) (v .«machine_check») (v .tpr) (v .icr) (v .phase) (v .flight)
 
 abbrev pub withIsr : List ℕ → Vcpu → Vcpu
-withIsr x v = vcpu (v .allowed) (v .irr) x (v .«irr_level») (v .«isr_level») (v .nmi) (v .tpr) (v .icr) (v .phase) (v .flight)
+withIsr x v = vcpu (v .allowed) (v .irr) x (v .«irr_level») (v .«isr_level») (v .nmi) (v .«machine_check») (v .tpr) (v .icr) (v .phase) (v .flight)
 
 abbrev pub withIrrLevel : List ℕ → Vcpu → Vcpu
-withIrrLevel x v = vcpu (v .allowed) (v .irr) (v .isr) x (v .«isr_level») (v .nmi) (v .tpr) (v .icr) (v .phase) (v .flight)
+withIrrLevel x v = vcpu (v .allowed) (v .irr) (v .isr) x (v .«isr_level») (v .nmi) (v .«machine_check») (v .tpr) (v .icr) (v .phase) (v .flight)
 
 abbrev pub withIsrLevel : List ℕ → Vcpu → Vcpu
-withIsrLevel x v = vcpu (v .allowed) (v .irr) (v .isr) (v .«irr_level») x (v .nmi) (v .tpr) (v .icr) (v .phase) (v .flight)
+withIsrLevel x v = vcpu (v .allowed) (v .irr) (v .isr) (v .«irr_level») x (v .nmi) (v .«machine_check») (v .tpr) (v .icr) (v .phase) (v .flight)
 
 abbrev pub withNmi : Bool → Vcpu → Vcpu
-withNmi x v = vcpu (v .allowed) (v .irr) (v .isr) (v .«irr_level») (v .«isr_level») x (v .tpr) (v .icr) (v .phase) (v .flight)
+withNmi x v = vcpu (v .allowed) (v .irr) (v .isr) (v .«irr_level») (v .«isr_level») x (v .«machine_check») (v .tpr) (v .icr) (v .phase) (v .flight)
+
+abbrev pub withMachineCheck : Bool → Vcpu → Vcpu
+withMachineCheck x v = vcpu (v .allowed) (v .irr) (v .isr) (v .«irr_level») (v .«isr_level») (v .nmi) x (v .tpr) (v .icr) (v .phase) (v .flight)
 
 abbrev pub withTpr : ℕ → Vcpu → Vcpu
-withTpr x v = vcpu (v .allowed) (v .irr) (v .isr) (v .«irr_level») (v .«isr_level») (v .nmi) x (v .icr) (v .phase) (v .flight)
+withTpr x v = vcpu (v .allowed) (v .irr) (v .isr) (v .«irr_level») (v .«isr_level») (v .nmi) (v .«machine_check») x (v .icr) (v .phase) (v .flight)
 
 abbrev pub withIcr : ℕ → Vcpu → Vcpu
-withIcr x v = vcpu (v .allowed) (v .irr) (v .isr) (v .«irr_level») (v .«isr_level») (v .nmi) (v .tpr) x (v .phase) (v .flight)
+withIcr x v = vcpu (v .allowed) (v .irr) (v .isr) (v .«irr_level») (v .«isr_level») (v .nmi) (v .«machine_check») (v .tpr) x (v .phase) (v .flight)
 
 abbrev pub withPhase : Phase → Vcpu → Vcpu
-withPhase x v = vcpu (v .allowed) (v .irr) (v .isr) (v .«irr_level») (v .«isr_level») (v .nmi) (v .tpr) (v .icr) x (v .flight)
+withPhase x v = vcpu (v .allowed) (v .irr) (v .isr) (v .«irr_level») (v .«isr_level») (v .nmi) (v .«machine_check») (v .tpr) (v .icr) x (v .flight)
 
 abbrev pub withFlight : InFlight → Vcpu → Vcpu
-withFlight x v = vcpu (v .allowed) (v .irr) (v .isr) (v .«irr_level») (v .«isr_level») (v .nmi) (v .tpr) (v .icr) (v .phase) x
+withFlight x v = vcpu (v .allowed) (v .irr) (v .isr) (v .«irr_level») (v .«isr_level») (v .nmi) (v .«machine_check») (v .tpr) (v .icr) (v .phase) x
 
 -- ---- the module
 -- how many vCPUs a module value with this n and L is answered for: none where n is over 32 or L is not 1 to 3 (2.15)

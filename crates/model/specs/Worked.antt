@@ -14,7 +14,7 @@ use Rattle.model.specs.declared.Vcpu.{Vcpu}
 use Rattle.model.specs.declared.Module.{Module}
 use Rattle.vector_set.specs.Sets.{empty, full, insert}
 use Rattle.model.specs.Items.{sameItem}
-use Rattle.model.specs.State.{vcpuAt, start, withVcpu, withAllowed, withIrr, withIsr, withIrrLevel, withIsrLevel, withNmi, withTpr, withPhase}
+use Rattle.model.specs.State.{vcpuAt, start, withVcpu, withAllowed, withIrr, withIsr, withIrrLevel, withIsrLevel, withNmi, withMachineCheck, withTpr, withPhase}
 use Rattle.model.specs.Codes.{Answer, nothing, presents, window, Result, done, counted, answers, refused}
 use Rattle.model.specs.Registers.{kindOf}
 use Rattle.model.specs.Causes.{isKindNone, isKindRead, isKindWrite}
@@ -30,10 +30,10 @@ abbrev filled : ℕ → ℕ → ℕ → List ℕ → List ℕ
 filled i b zero p = p
 filled i b (suc n) p = set (filled i b n p) (i + n) b
 
-abbrev ones : List ℕ
+abbrev pub ones : List ℕ
 ones = replicate 256 0xFF
 
-abbrev pageAfter : Module → Event → List ℕ
+abbrev pub pageAfter : Module → Event → List ℕ
 pageAfter m e = step m e .page
 
 -- the record of case 14.24, leaving
@@ -60,7 +60,7 @@ refuses x = isRefused 0x80000005 (resultOn fresh2 (icr x))
 abbrev reachesOf18 : ℕ → ℕ → Bool
 reachesOf18 mask x = gives mask (resultOn (start 18 1) (icr x))
 
-abbrev reads : ℕ → ℕ → Vcpu → Bool
+abbrev pub reads : ℕ → ℕ → Vcpu → Bool
 reads x r v = gives x (resultOn (having v) (at 0 (call 2 r 0)))
 
 -- how many of the n registers from r on have a kind of which t holds
@@ -124,14 +124,14 @@ nmiSent = next fresh2 (icr 0xC4400)
 abbrev handedRecord : Vcpu
 handedRecord = vcpuAt (next (having mixed) (at 0 (handBack ones false true))) 0
 
-abbrev hasLeft : Phase → Bool
+abbrev pub hasLeft : Phase → Bool
 hasLeft Active = false
 hasLeft Leaving = false
 hasLeft Left = true
 
 -- ---- new and merged
 -- vCPU 0, with everything allowed, after a notice
-abbrev told : Vcpu → List ℕ → Out
+abbrev pub told : Vcpu → List ℕ → Out
 told v p = step (having (withAllowed full v)) (at 0 (notice p))
 
 -- the page of case 14.51: bit 14, the NMI, the marks of 0x41 and 0x52
@@ -167,7 +167,7 @@ icr31 x = at 31 (call 3 0x830 x)
 abbrev crowded : Module
 crowded = record { n = 2; vmpl = 1; registrations = 1; vcpus = replicate 32 record0 }
 
-abbrev irrOf : Module → ℕ → List ℕ
+abbrev pub irrOf : Module → ℕ → List ℕ
 irrOf m k = vcpuAt m k .irr
 
 unfoldable pub further : List Bool
@@ -337,8 +337,8 @@ further =
     ∷ gives 0 (resultOn (next merged42 (at 0 (call 3 0x83F 0x42))) (at 0 (call 2 0x830 0)))
     ∷ isRefused 4 (resultOn (next merged42 (at 0 (call 3 0x83F 0x42))) (at 0 nonDelivery))
     -- 14.56: the most that a notice admits, where nothing is pending and where everything is; what it does not name stays pending
-    ∷ counts 226 0 (told record0 ones .result)
-    ∷ counts 0 226 (told (withNmi true (withIrr full record0)) ones .result)
+    ∷ counts 227 0 (told record0 ones .result)
+    ∷ counts 0 227 (told (withNmi true (withMachineCheck true (withIrr full record0))) ones .result)
     ∷ sameNumbers (irrOf (told (withIrr (singleton 0x52) record0) byte64 .after) 0) (insert 0x52 (singleton 0x41))
     ∷ (vcpuAt (told (withNmi true record0) byte64 .after) 0 .nmi)
     -- 14.57: 32 vCPUs, and the last of them

@@ -1,6 +1,8 @@
 // The state of the gate and what its events answer. What each event does is said in specs/; the crates above carry it out.
-// The vector that stands for the NMI in an allowed set and in call 4 (2.4, 4.16, 5.17).
+// The vectors that stand for the NMI and the machine check in an allowed set and in call 4 (2.4, 4.16, 4.40, 5.17).
 pub const NMI_VECTOR: u8 = 2;
+
+pub const MACHINE_CHECK_VECTOR: u8 = 18;
 
 // The phase of a vCPU.
 pub enum Phase {
@@ -13,12 +15,14 @@ pub enum Phase {
 pub enum InFlight {
     Nothing,
     Nmi,
+    MachineCheck,
     Vector(u8),
 }
 
-// What is pending, sent or presented: the NMI or a vector.
+// What is pending, sent or presented: the NMI, the machine check or a vector.
 pub enum Item {
     Nmi,
+    MachineCheck,
     Vector(u8),
 }
 
@@ -30,6 +34,7 @@ pub struct Vcpu {
     pub irr_level: [u32; 8],
     pub isr_level: [u32; 8],
     pub nmi: bool,
+    pub machine_check: bool,
     pub tpr: u8,
     pub icr: u64,
     pub phase: Phase,
@@ -113,6 +118,7 @@ pub enum Admission {
 pub enum Presentation {
     Nothing,
     Nmi,
+    MachineCheck,
     Vector(u8),
     Window(u8),
     Refused(Refusal),

@@ -5,6 +5,7 @@ ghost use Rattle.model.specs.Requests.{registration, readBy, writeBy, writeValu
 use apic::registers;
 use model::Kind;
 use model::Local;
+use model::MACHINE_CHECK_VECTOR;
 use model::NMI_VECTOR;
 use model::Refusal;
 use model::Request;
@@ -100,7 +101,8 @@ fn is_nameable(ecx: u32) -> bool
     ensures { λ r. ⌜ r ≡ nameable ecx ⌝ }
 {
     let v = ecx % 256;
-    (v == NMI_VECTOR as u32 || vector_set::is_vector(v as u64)) && ecx < 512
+    (v == NMI_VECTOR as u32 || v == MACHINE_CHECK_VECTOR as u32 || vector_set::is_vector(v as u64))
+        && ecx < 512
 }
 
 // Call 4 (5.15, 5.16).

@@ -1,6 +1,6 @@
 -- The model's step from the steps of records: what the crates above cite for a module lent by value or by reference.
 -- Assumes nothing.
-use mathlib.Core.Path.{_≡_, refl, sym, ap, ap₂, _∙_}
+use mathlib.Core.Path.{_≡_, refl, sym, ap, _∙_}
 use mathlib.Core.Bool.{Bool, not, _&&_}
 use mathlib.Core.List.{List, []}
 use Prim.Native.Nat.{ℕ, _+_, _-_, _<_, _≤_}
@@ -20,7 +20,7 @@ use Rattle.model.specs.declared.Module.{Module}
 use Rattle.model.specs.State.{size, vcpuAt, withVcpu, withRegistrations}
 use Rattle.model.specs.Doorbell.{admitted, noticedPage, written}
 use Rattle.model.specs.Codes.{codeOf, Verdict, accept, refuse, refused}
-use Rattle.model.specs.Items.{itemInFlight, pendingIn, pending}
+use Rattle.model.specs.Items.{itemInFlight, pending}
 use Rattle.model.specs.Ipi.{icrItem, icrTarget, reached, sent, newBits}
 use Rattle.model.specs.Requests.{requestOf}
 use Rattle.model.specs.Events.{Act, notice, call, entry, nonDelivery, handBack, at, Bytes, Event, pageOf, offer, handed, vcpuVerdict, verdict, sends, Effect}
@@ -118,8 +118,7 @@ by-call (refuse d) m i op c x =
 -- what an IPI looks at in a record: its phase and what is pending
 pub record Alike (u v : Vcpu) : Type 0 where
   pub phase : u .phase ≡ v .phase
-  pub nmi : u .nmi ≡ v .nmi
-  pub irr : u .irr ≡ v .irr
+  pub pends : (y : Item) → pending y u ≡ pending y v
 
 -- a call that sends leaves these of its caller
 same-seen : (g : Verdict) (r : Request) (i k x : ℕ) (v : Vcpu) → callOn g r i k v .reply ≡ sends x → Alike (callOn g r i k v .vcpu) v
@@ -127,7 +126,7 @@ unfolding callOn callEffect
 same-seen (refuse c) r i k x v e = clash (cc)
 same-seen accept (request.Local o) i k x v e = clash (cc)
 same-seen accept (request.Refused c) i k x v e = clash (cc)
-same-seen accept (request.Icr y) i k x v e = record { phase = refl; nmi = refl; irr = refl }
+same-seen accept (request.Icr y) i k x v e = record { phase = refl; pends = λ y. refl }
 
 -- the vCPU k is named, by its record
 abbrev named : Item → Target → ℕ → Module → ℕ → Vcpu → Bool
@@ -136,7 +135,7 @@ named y t i m k v = reached t i (size m) k (v .phase) && not (pending y v)
 alike-named : (y : Item) (t : Target) (i : ℕ) (m : Module) (k : ℕ) (u v : Vcpu) → Alike u v → named y t i m k u ≡ named y t i m k v
 alike-named y t i m k u v a =
     ap (λ (p : Phase). reached t i (size m) k p && not (pending y u)) (a .phase)
-    ∙ ap₂ (λ (b : Bool) (s : List ℕ). reached t i (size m) k (v .phase) && not (pendingIn y b s)) (a .nmi) (a .irr)
+    ∙ ap (λ (b : Bool). reached t i (size m) k (v .phase) && not b) (a .pends y)
 
 -- the records that an IPI looks at are those of before the caller's record and the count were stored
 same-named : (m : Module) (i : ℕ) (f : Effect) (y : Item) (t : Target) → Alike (f .vcpu) (vcpuAt m i) → i < length (m .vcpus)

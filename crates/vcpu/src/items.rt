@@ -16,10 +16,11 @@ pub fn post(v: Vcpu, posting: Posting) -> Vcpu
     let mut w = v;
     w.irr[k] = w.irr[k] | posting.bits;
     w.nmi = w.nmi | posting.nmi;
+    w.machine_check = w.machine_check | posting.machine_check;
     w
 }
 
-// The item is pending (4.27, 7.17).
+// The item is pending (4.27, 4.42, 7.17).
 pub fn post_item(v: Vcpu, item: Item) -> Vcpu
     ensures { λ r. ⌜ r ≡ mark item v ⌝ }
 {

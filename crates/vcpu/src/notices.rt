@@ -8,7 +8,7 @@ use ipi::Counts;
 use ipi::Posting;
 use model::Vcpu;
 
-// The record with what a notice asks for beside its marks (4.25 to 4.28).
+// The record with what a notice asks for beside its marks (4.25 to 4.28, 4.42).
 pub fn add_request(v: Vcpu, posting: Posting, level: u32) -> Vcpu
     requires { ⌜ posting .word < 8 ⌝ }
     ensures { λ r. ⌜ r ≡ requestAdded posting level v ⌝ }
@@ -30,11 +30,18 @@ pub fn add_marks(v: Vcpu, edge: [u32; 8]) -> Vcpu
     w
 }
 
-// The marked vectors are counted with the posting that was made to the word and the mark (4.29, 4.37).
-pub fn count_marks(posting: Posting, word: u32, nmi: bool, edge: [u32; 8], irr: [u32; 8]) -> Counts
-    ensures { λ r. ⌜ r ≡ marksCounted (countsOf posting word nmi) edge irr ⌝ }
+// The marked vectors are counted with the posting that was made to the word and the marks (4.29, 4.37).
+pub fn count_marks(
+    posting: Posting,
+    word: u32,
+    nmi: bool,
+    machine_check: bool,
+    edge: [u32; 8],
+    irr: [u32; 8],
+) -> Counts
+    ensures { λ r. ⌜ r ≡ marksCounted (countsOf posting word nmi «machine_check») edge irr ⌝ }
 {
-    let c = ipi::counts_of(posting, word, nmi);
+    let c = ipi::counts_of(posting, word, nmi, machine_check);
     let more = vector_set_algebra::difference(edge, irr);
     let again = vector_set_algebra::intersection(edge, irr);
     let new = c.new + vector_set_search::count_of(more);

@@ -23,6 +23,7 @@ fn written_anew(v: Vcpu, phase: Phase, flight: InFlight) -> Vcpu
         irr_level,
         isr_level,
         nmi: v.nmi,
+        machine_check: v.machine_check,
         tpr: v.tpr,
         icr: v.icr,
         phase,

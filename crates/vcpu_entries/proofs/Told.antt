@@ -25,13 +25,16 @@ after (counted x y) v = v
 after (answers o) v = entered o v
 after (refused c) v = v
 
--- an answer that is neither the NMI nor a vector
-pub none-shown : (r : Presentation) (v : Vcpu) → OneOf (0 ∷ 3 ∷ 4 ∷ []) (tagOf presentation.the-type r) → v ≡ after (presentedResult r) v
+-- an answer that presents nothing
+pub none-shown : (r : Presentation) (v : Vcpu) → OneOf (0 ∷ 4 ∷ 5 ∷ []) (tagOf presentation.the-type r) → v ≡ after (presentedResult r) v
 unfolding entered
 none-shown shown.Nothing v e = refl
 none-shown shown.Nmi v (inl e) = clash (cc)
 none-shown shown.Nmi v (inr (inl e)) = clash (cc)
 none-shown shown.Nmi v (inr (inr e)) = clash (cc)
+none-shown shown.MachineCheck v (inl e) = clash (cc)
+none-shown shown.MachineCheck v (inr (inl e)) = clash (cc)
+none-shown shown.MachineCheck v (inr (inr e)) = clash (cc)
 none-shown (shown.Vector x) v (inl e) = clash (cc)
 none-shown (shown.Vector x) v (inr (inl e)) = clash (cc)
 none-shown (shown.Vector x) v (inr (inr e)) = clash (cc)

@@ -49,10 +49,13 @@ fn offer_vector(v: Vcpu, ready: bool) -> Presentation
     Presentation::Window(vector)
 }
 
-// What an entry offers the guest (8.6 to 8.13).
+// What an entry offers the guest: the machine check before all else, which nothing holds back (8.6 to 8.13, 8.17, 8.18).
 fn offer_of(v: Vcpu, iflag: bool, shadow: bool, blocked: bool) -> Presentation
     ensures { λ r. ⌜ presentedResult r ≡ Result.answers (offer iflag shadow blocked v) ⌝ }
 {
+    if v.machine_check {
+        return Presentation::MachineCheck;
+    }
     if v.nmi && !shadow && !blocked {
         return Presentation::Nmi;
     }
@@ -66,6 +69,15 @@ fn present_nmi(v: Vcpu) -> Vcpu
     let mut w = v;
     w.nmi = false;
     records::with_flight(w, InFlight::Nmi)
+}
+
+// The machine check is marked no more, and is in flight (8.14, 8.17).
+fn present_machine_check(v: Vcpu) -> Vcpu
+    ensures { λ r. ⌜ r ≡ entered (Answer.presents Item.MachineCheck) (forget v) ⌝ }
+{
+    let mut w = v;
+    w.machine_check = false;
+    records::with_flight(w, InFlight::MachineCheck)
 }
 
 // The vector moves from the IRR to the ISR, its level mark with it, and is in flight (8.11, 8.12, 8.14).
@@ -88,7 +100,7 @@ fn present_vector(v: Vcpu, x: u8) -> Vcpu
     records::with_flight(w, InFlight::Vector(x))
 }
 
-// An entry on one record: what was in flight is forgotten, and what is presented is in flight (8.2 to 8.14).
+// An entry on one record: what was in flight is forgotten, and what is presented is in flight (8.2 to 8.14, 8.17 to 8.19).
 pub fn entry_vcpu(v: Vcpu, iflag: bool, shadow: bool, blocked: bool) -> VcpuEntered
     ensures { λ r. ⌜ enteredVcpu r ≡ entryOn (vcpuVerdict 0 0 v (Act.entry iflag shadow blocked)) (offer iflag shadow blocked v) v ⌝ }
 {
@@ -102,6 +114,7 @@ pub fn entry_vcpu(v: Vcpu, iflag: bool, shadow: bool, blocked: bool) -> VcpuEnte
     let presentation = offer_of(v, iflag, shadow, blocked);
     let vcpu = match presentation {
         Presentation::Nmi => present_nmi(v),
+        Presentation::MachineCheck => present_machine_check(v),
         Presentation::Vector(x) => present_vector(v, x),
         _ => records::with_flight(v, InFlight::Nothing),
     };
@@ -137,6 +150,15 @@ fn return_nmi(v: Vcpu) -> Vcpu
     records::with_flight(w, InFlight::Nothing)
 }
 
+// The machine check is marked again (9.7, 9.9).
+fn return_machine_check(v: Vcpu) -> Vcpu
+    ensures { λ r. ⌜ r ≡ undelivered (some Item.MachineCheck) v ⌝ }
+{
+    let mut w = v;
+    w.machine_check = true;
+    records::with_flight(w, InFlight::Nothing)
+}
+
 fn returned(vcpu: Vcpu) -> VcpuStepped
     ensures { λ r. ⌜ r ≡ record { outcome = Outcome.Done 0; vcpu = vcpu } ⌝ }
 {
@@ -144,7 +166,7 @@ fn returned(vcpu: Vcpu) -> VcpuStepped
     VcpuStepped { outcome, vcpu }
 }
 
-// A non-delivery on one record: what was in flight is pending again (9.2 to 9.7).
+// A non-delivery on one record: what was in flight is pending again (9.2 to 9.7, 9.9).
 pub fn non_delivery_vcpu(v: Vcpu) -> VcpuStepped
     ensures { λ r. ⌜ steppedOut r ≡ nonDeliveryOn (vcpuVerdict 0 0 v Act.nonDelivery) (itemInFlight (v .flight)) v ⌝ }
 {
@@ -156,6 +178,7 @@ pub fn non_delivery_vcpu(v: Vcpu) -> VcpuStepped
     match flight {
         InFlight::Nothing => records::refused(v, Refusal::NothingInFlight),
         InFlight::Nmi => returned(return_nmi(v)),
+        InFlight::MachineCheck => returned(return_machine_check(v)),
         InFlight::Vector(x) => returned(return_vector(v, x)),
     }
 }

@@ -15,9 +15,10 @@ use Rattle.vector_set.proofs.Laws.{Words, has-collect, has-empty, collect-is}
 use Rattle.vector_set.proofs.Counts.{count-zero}
 use Rattle.model.specs.declared.Item.the-variants.{Vector}
 use Rattle.model.specs.declared.Vcpu.{Vcpu}
-use Rattle.model.specs.State.{withIrr, withIrrLevel, withNmi}
+use Rattle.model.specs.State.{withIrr, withIrrLevel, withNmi, withMachineCheck}
 use Rattle.model.specs.Items.{itemCount, markAll}
-use Rattle.model.specs.Doorbell.{bitOf, levelBit, manyBit, isVector, isLevel, inPart, noPart, admitsNmi, admitsLevel, admitsEdge, admits}
+use Rattle.model.specs.Doorbell.{bitOf, levelBit, manyBit, isVector, isLevel, inPart, noPart}
+use Rattle.model.specs.Doorbell.{nmiBit, machineCheckBit, admitsMark, admitsLevel, admitsEdge, admits}
 use Rattle.model.specs.Events.{noticed, itemsNew, itemsMerged}
 use Rattle.ipi.specs.declared.Counts.{Counts}
 use Rattle.ipi.specs.declared.Posting.{Posting}
@@ -26,7 +27,7 @@ use Rattle.descriptor.specs.declared.Requested.{Requested}
 use Rattle.descriptor.specs.Requests.{singleBit, levelOf, requestedIn}
 use Rattle.descriptor.proofs.Admits.{level-is, one-at}
 use Rattle.vcpu.specs.Notices.{requestAdded, marksAdded, marksCounted}
-use Rattle.vcpu_pages.proofs.Joins.{wider, wider-is, counts-are, counted, union-is, more-new, more-merged}
+use Rattle.vcpu_pages.proofs.Joins.{new-marks, old-marks, wider, wider-is, counts-are, counted, union-is, more-new, more-merged}
 
 -- ---- the vectors of the admitted part, by the answers to the descriptor's tests
 module _ (a d : List ℕ) where
@@ -75,9 +76,16 @@ module _ (a d : List ℕ) where
       go true q = refl
       go false q = refl
 
-  -- the vector, if t, and the NMI
+  -- the NMI and the machine check
+  abbrev nmi : Bool
+  nmi = admitsMark nmiBit 2 a d
+
+  abbrev check : Bool
+  check = admitsMark machineCheckBit 18 a d
+
+  -- these, and the vector, if t
   abbrev asked : Bool → Posting
-  asked t = record { nmi = admitsNmi a d; word = getD d 0 0 / 32; bits = cond t (2 ^ (getD d 0 0 % 32)) 0 }
+  asked t = record { nmi = nmi; «machine_check» = check; word = getD d 0 0 / 32; bits = cond t (2 ^ (getD d 0 0 % 32)) 0 }
 
   asks-one : bitOf d manyBit ≡ false → requestedIn a d .posting ≡ asked named
   unfolding requestedIn singleBit
@@ -106,10 +114,16 @@ module _ (a d : List ℕ) (v : Vcpu) (wi : Words (v .irr)) (wl : Words (v .«irr
       ∙ wider-is (v .«irr_level») wl x small (levelled a d) (λ y. isLevel (admitsLevel a d) y) (λ y l. part-level a d y)
 
   abbrev sets : List ℕ → List ℕ → Vcpu
-  sets s l = withIrrLevel l (withNmi (v .nmi || admitsNmi a d) (withIrr s v))
+  sets s l = withIrrLevel l (withMachineCheck (v .«machine_check» || check a d) (withNmi (v .nmi || nmi a d) (withIrr s v)))
+
+  abbrev marks-new : ℕ
+  marks-new = new-marks (nmi a d) (check a d) (v .nmi) (v .«machine_check»)
+
+  abbrev marks-old : ℕ
+  marks-old = old-marks (nmi a d) (check a d) (v .nmi) (v .«machine_check»)
 
   abbrev totals : ℕ → ℕ → Counts
-  totals n m = record { new = one (admitsNmi a d && not (v .nmi)) + n; merged = one (admitsNmi a d && v .nmi) + m }
+  totals n m = record { new = marks-new + n; merged = marks-old + m }
 
   -- bit 14 clear
   one-added : bitOf d manyBit ≡ false → requestAdded (asked a d (named a d)) (levelOf a d) v ≡ noticed (admits a d) v
@@ -117,10 +131,10 @@ module _ (a d : List ℕ) (v : Vcpu) (wi : Words (v .irr)) (wl : Words (v .«irr
   one-added m =
       ap₂ sets (wider-is (v .irr) wi x small (named a d) (λ y. inPart (Vector y) (admits a d)) (λ y l. part-one a d m y l)) level-set
 
-  one-counts : bitOf d manyBit ≡ false → countsOf (asked a d (named a d)) (getD (v .irr) (x / 32) 0) (v .nmi) ≡ items a d v
+  one-counts : bitOf d manyBit ≡ false → countsOf (asked a d (named a d)) (getD (v .irr) (x / 32) 0) (v .nmi) (v .«machine_check») ≡ items a d v
   unfolding itemsNew itemsMerged itemCount admits
   one-counts m =
-      counts-are (v .irr) wi x small (named a d) (admitsNmi a d) (v .nmi)
+      counts-are (v .irr) wi x small (named a d) (nmi a d) (check a d) (v .nmi) (v .«machine_check»)
       ∙ ap₂ totals
       (sym (counted (v .irr) wi x small (named a d) (λ y. inPart (Vector y) (admits a d)) (λ y l. part-one a d m y l) not))
       (sym (counted (v .irr) wi x small (named a d) (λ y. inPart (Vector y) (admits a d)) (λ y l. part-one a d m y l) (λ b. b)))
@@ -137,14 +151,14 @@ module _ (a d : List ℕ) (v : Vcpu) (wi : Words (v .irr)) (wl : Words (v .«irr
   with-level = wider (v .irr) wi x small (levelled a d)
 
   many-counts : bitOf d manyBit ≡ true
-      → marksCounted (countsOf (asked a d (levelled a d)) (getD (v .irr) (x / 32) 0) (v .nmi)) edges with-level ≡ items a d v
+      → marksCounted (countsOf (asked a d (levelled a d)) (getD (v .irr) (x / 32) 0) (v .nmi) (v .«machine_check»)) edges with-level ≡ items a d v
   unfolding marksCounted itemsNew itemsMerged itemCount admits
   many-counts m =
       ap (λ (c : Counts). marksCounted c edges with-level)
-      (counts-are (v .irr) wi x small (levelled a d) (admitsNmi a d) (v .nmi))
+      (counts-are (v .irr) wi x small (levelled a d) (nmi a d) (check a d) (v .nmi) (v .«machine_check»))
       ∙ ap₂ (λ (p q : ℕ). record { new = p; merged = q })
-      (add-assoc (one (admitsNmi a d && not (v .nmi))) (one (levelled a d && not (has (v .irr) x))) (count (difference edges with-level)))
-      (add-assoc (one (admitsNmi a d && v .nmi)) (one (levelled a d && has (v .irr) x)) (count (intersection edges with-level)))
+      (add-assoc marks-new (one (levelled a d && not (has (v .irr) x))) (count (difference edges with-level)))
+      (add-assoc marks-old (one (levelled a d && has (v .irr) x)) (count (intersection edges with-level)))
       ∙ ap₂ totals
       (more-new (v .irr) wi x small (levelled a d) (λ y. isLevel (admitsLevel a d) y) (λ y l. part-level a d y) edges (part-apart a d m))
       (more-merged (v .irr) wi x small (levelled a d) (λ y. isLevel (admitsLevel a d) y) (λ y l. part-level a d y) edges (part-apart a d m))
@@ -155,7 +169,7 @@ abbrev pub added : Vcpu → Requested → Vcpu
 added v r = requestAdded (r .posting) (r .level) v
 
 abbrev pub counts : Vcpu → Requested → Counts
-counts v r = countsOf (r .posting) (getD (v .irr) (r .posting .word) 0) (v .nmi)
+counts v r = countsOf (r .posting) (getD (v .irr) (r .posting .word) 0) (v .nmi) (v .«machine_check»)
 
 pub many-of : (a d : List ℕ) (r : Requested) → r ≡ requestedIn a d → (b : Bool) → r .many ≡ b → bitOf d manyBit ≡ b
 unfolding requestedIn
@@ -176,7 +190,7 @@ module _ (a d : List ℕ) (v : Vcpu) (wi : Words (v .irr)) (wl : Words (v .«irr
       let m = many-of a d r is false e in
       let p : r .posting ≡ asked a d (named a d) = ap (λ (s : Requested). s .posting) is ∙ asks-one a d m in (
         ap₂ (λ (q : Posting) (l : ℕ). requestAdded q l v) p level-of ∙ one-added a d v wi wl byte m,
-        ap (λ (q : Posting). countsOf q (getD (v .irr) (q .word) 0) (v .nmi)) p ∙ one-counts a d v wi wl byte m,
+        ap (λ (q : Posting). countsOf q (getD (v .irr) (q .word) 0) (v .nmi) (v .«machine_check»)) p ∙ one-counts a d v wi wl byte m,
       )
 
   pub many-is : r .many ≡ true → (e : List ℕ) → e ≡ collect (admitsEdge a d)
@@ -186,7 +200,7 @@ module _ (a d : List ℕ) (v : Vcpu) (wi : Words (v .irr)) (wl : Words (v .«irr
       let p : r .posting ≡ asked a d (levelled a d) = ap (λ (s : Requested). s .posting) is ∙ asks-many a d m in
       rw f (
         ap₂ (λ (q : Posting) (l : ℕ). marksAdded (collect (admitsEdge a d)) (requestAdded q l v)) p level-of ∙ many-added a d v wi wl byte m,
-        ap (λ (q : Posting). marksCounted (countsOf q (getD (v .irr) (q .word) 0) (v .nmi)) (collect (admitsEdge a d)) (requestAdded q (r .level) v .irr)) p
+        ap (λ (q : Posting). marksCounted (countsOf q (getD (v .irr) (q .word) 0) (v .nmi) (v .«machine_check»)) (collect (admitsEdge a d)) (requestAdded q (r .level) v .irr)) p
             ∙ many-counts a d v wi wl byte m,
       )
 
@@ -195,11 +209,11 @@ module _ (v : Vcpu) (wi : Words (v .irr)) (wl : Words (v .«irr_level»)) where
   none-added : noticed noPart v ≡ v
   unfolding noticed markAll noPart
   none-added =
-      ap₂ (λ (s l : List ℕ). withIrrLevel l (withNmi (v .nmi || false) (withIrr s v)))
+      ap₂ (λ (s l : List ℕ). withIrrLevel l (withMachineCheck (v .«machine_check» || false) (withNmi (v .nmi || false) (withIrr s v))))
       (sym (collect-is (λ y. has (v .irr) y || (has empty y || false)) (v .irr) wi
       (λ y l. sym (ap (λ (b : Bool). has (v .irr) y || (b || false)) (has-empty y l) ∙ or-false (has (v .irr) y)))))
       (sym (collect-is (λ y. has (v .«irr_level») y || false) (v .«irr_level») wl (λ y l. sym (or-false (has (v .«irr_level») y)))))
-      ∙ ap (λ (b : Bool). withNmi b v) (or-false (v .nmi))
+      ∙ ap₂ (λ (b c : Bool). withMachineCheck c (withNmi b v)) (or-false (v .nmi)) (or-false (v .«machine_check»))
 
   none-counted : (f : Bool → Bool) → count (collect (λ y. (has empty y || false) && f (has (v .irr) y))) ≡ 0
   none-counted f =

@@ -35,6 +35,13 @@ merged-apart false true true e = refl
 merged-apart false true false e = refl
 merged-apart false false r e = refl
 
+-- ---- what a posting of the NMI, if n, and of the machine check, if m, counts of them where they were pending, if b and c
+abbrev pub new-marks : Bool → Bool → Bool → Bool → ℕ
+new-marks n m b c = one (n && not b) + one (m && not c)
+
+abbrev pub old-marks : Bool → Bool → Bool → Bool → ℕ
+old-marks n m b c = one (n && b) + one (m && c)
+
 -- ---- the vector x, if t, added to the set s by its word
 module _ (s : List ℕ) (ws : Words s) (x : ℕ) (small : x < 256) where
   abbrev pub wider : Bool → List ℕ
@@ -51,16 +58,16 @@ module _ (s : List ℕ) (ws : Words s) (x : ℕ) (small : x < 256) where
       ap (set s (x / 32)) (or-zero-r (getD s (x / 32) 0)) ∙ set-getD s (x / 32) 0
       ∙ collect-is (λ y. has s y || g y) s ws (λ y l. sym (ap (λ (b : Bool). has s y || b) (h y l) ∙ or-false (has s y)))
 
-  -- what a posting of it and of the NMI, if n, counts where the NMI was pending or not
-  pub counts-are : (t n b : Bool)
-      → countsOf (record { nmi = n; word = x / 32; bits = cond t (2 ^ (x % 32)) 0 }) (getD s (x / 32) 0) b
-      ≡ record { new = one (n && not b) + one (t && not (has s x)); merged = one (n && b) + one (t && has s x) }
+  -- what a posting of it and of these counts
+  pub counts-are : (t n m b c : Bool)
+      → countsOf (record { nmi = n; «machine_check» = m; word = x / 32; bits = cond t (2 ^ (x % 32)) 0 }) (getD s (x / 32) 0) b c
+      ≡ record { new = new-marks n m b c + one (t && not (has s x)); merged = old-marks n m b c + one (t && has s x) }
   unfolding countsOf has
-  counts-are true n b =
-      ap₂ (λ (p q : Bool). record { new = one (n && not b) + one p; merged = one (n && b) + one q })
+  counts-are true n m b c =
+      ap₂ (λ (p q : Bool). record { new = new-marks n m b c + one p; merged = old-marks n m b c + one q })
       (single-adds (x % 32) (getD s (x / 32) 0) (omega arith) (ws .small (x / 32) (omega arith))) (single-meets (x % 32) (getD s (x / 32) 0))
-  counts-are false n b =
-      ap₂ (λ (p q : Bool). record { new = one (n && not b) + one p; merged = one (n && b) + one q })
+  counts-are false n m b c =
+      ap₂ (λ (p q : Bool). record { new = new-marks n m b c + one p; merged = old-marks n m b c + one q })
       (none-adds (getD s (x / 32) 0)) (none-meets (getD s (x / 32) 0))
 
   module _ (t : Bool) (g : ℕ → Bool) (h : (y : ℕ) → y < 256 → g y ≡ (t && eqb y x)) where

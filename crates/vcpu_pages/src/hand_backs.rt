@@ -24,6 +24,7 @@ pub fn empty_vcpu(v: Vcpu) -> Vcpu
     w.irr_level = none;
     w.isr_level = none;
     w.nmi = false;
+    w.machine_check = false;
     vcpu::records::with_phase(w, Phase::Left)
 }
 
@@ -51,6 +52,15 @@ pub fn hand_over(page: &mut [u8], vmpl: u32, v: Vcpu, iflag: bool, shadow: bool)
     let irr_level = v.irr_level;
     let isr = v.isr;
     let isr_level = v.isr_level;
-    hand_back::hand_over(page, vmpl, irr, irr_level, v.nmi, isr, isr_level);
+    hand_back::hand_over(
+        page,
+        vmpl,
+        irr,
+        irr_level,
+        v.nmi,
+        v.machine_check,
+        isr,
+        isr_level,
+    );
     Outcome::Done(summary(vmpl, v.tpr, iflag, shadow))
 }

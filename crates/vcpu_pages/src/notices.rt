@@ -70,7 +70,7 @@ pub fn notice_vcpu(page: &mut [u8], vmpl: u32, v: Vcpu) -> VcpuNoticed
     let before = irr[k];
     let w = add_request(v, posting, requested.level);
     if !requested.many {
-        let c = ipi::counts_of(posting, before, v.nmi);
+        let c = ipi::counts_of(posting, before, v.nmi, v.machine_check);
         return VcpuNoticed {
             admission: Admission::Items(c.new, c.merged),
             vcpu: w,
@@ -78,7 +78,7 @@ pub fn notice_vcpu(page: &mut [u8], vmpl: u32, v: Vcpu) -> VcpuNoticed
     }
     let edge = doorbell::take_marks(page, vmpl, allowed, requested);
     let pending = w.irr;
-    let c = count_marks(posting, before, v.nmi, edge, pending);
+    let c = count_marks(posting, before, v.nmi, v.machine_check, edge, pending);
     VcpuNoticed {
         admission: Admission::Items(c.new, c.merged),
         vcpu: add_marks(w, edge),

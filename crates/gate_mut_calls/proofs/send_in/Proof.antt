@@ -1,6 +1,7 @@
 -- `gate_mut_calls::send_in` meets its contract: a walk of its MIR, with a loop that posts to the records in place, one by one.
 -- Assumes nothing.
 use Rattle.gate_mut.proofs.Walk.{_≡_, refl, ap, _∙_, not, List, [], _∷_, ℕ, _<_, _^_, Holds, URA, w32, w64, Val, vint, vptr, SProp, ent, GName, Lft, Share}
+use mathlib.Core.Path.{sym, subst}
 use Rattle.gate_mut.proofs.Walk.{Heap, WpFn, Tables, Atoms, givenOf, tables, tablesOf, Given, ⋆, _$_, _∵_, !, qed, vbool}
 use Rattle.gate_mut.proofs.Walk.{look, init, stop, fld, from, load, lit, un, bin, of-opd, and-then, no-more, land, enter, params1, pass1, pass0, whole, sub}
 use Rattle.gate_mut.proofs.Walk.{look-in, bool-makes}
@@ -57,8 +58,8 @@ use Rattle.icr.proofs.item_of.Symbol as item-def
 use Rattle.icr.proofs.item_of.Symbol.{name as #item}
 use Rattle.icr.proofs.item_of.Met as item-thm
 use Rattle.ipi.specs.declared.Posting.{Posting}
-use Rattle.ipi.specs.Posts.{postingOf, wordIn, posted, isNew}
-use Rattle.ipi.proofs.Marks.{posted-is, byte-sent, word-small}
+use Rattle.ipi.specs.Posts.{postingOf, wordIn, markIn, Posted, isNew}
+use Rattle.ipi.proofs.Marks.{posted-is, sent-unchecked, posted-sent, byte-sent, word-small}
 use Rattle.ipi.proofs.Posting as S
 use Rattle.ipi.proofs.Posting.Laws as S′
 use Rattle.ipi.proofs.targets_of.Symbol as targets-def
@@ -182,7 +183,7 @@ new-code next = word-in (mark-in (tell-code next))
 
 abbrev post-code : Code → Code
 post-code next =
-    word-code irr 1 10 7 21 32 33 24 34 35 27 36 28 37 38 39 40 41 (copy (place 6 (field 2 ∷ [])))
+    word-code irr 1 10 7 21 32 33 24 34 35 27 36 28 37 38 39 40 41 (copy (place 6 (field 3 ∷ [])))
     (mark-code 1 10 21 42 43 31 44 28 45 46 (copy (place 6 (field 0 ∷ []))) next)
 
 -- the bit, the next turn, and a turn from its test on
@@ -200,7 +201,7 @@ abbrev look-code : Code
 look-code =
     seq (assign (place 10 []) (op1 (cast unsigned unsigned w64) (copy (place 9 []))))
     (to-record 1 10 17 18 19
-    (seq (assign (place 20 []) (rvOpd (copy (place 19 (deref R′.mir ∷ field 8 ∷ [])))))
+    (seq (assign (place 20 []) (rvOpd (copy (place 19 (deref R′.mir ∷ field 9 ∷ [])))))
     (seq (call #reaches (copy (place 5 []) ∷ copy (place 9 []) ∷ copy (place 20 []) ∷ []) (place 16 []))
     (seq (cond (copy (place 16 [])) (new-code (post-code bit-code)) skip) next-code))))
 
@@ -267,6 +268,15 @@ module _ {M : Type 1} (𝓤 : URA M) (H : Heap 𝓤) (A : Atoms 𝓤) (W : Given
 
     in-w : d .p .word < 8
     in-w = rw (d .p-is) (word-small (icrItem x) (byte-sent x))
+
+    -- what is stored of a record that is reached: no IPI posts a machine check
+    abbrev reached-by : Vcpu → Vcpu
+    reached-by v = markIn (d .p) (wordIn (d .p) v)
+
+    reached-is : (v : Vcpu) → Words (v .irr) → Posted (d .p) v (reached-by v)
+    reached-is v ws =
+        subst (Posted (d .p) v) (sym (posted-sent (d .p) v (ap (λ (q : Posting). q .«machine_check») (d .p-is) ∙ sent-unchecked x)))
+        (posted-is (d .p) v in-w ws)
 
     -- `k = k + 1`, and the next turn
     ends : (t : Turn h i x n) → Holds (ltb (t .count) n) → (g : Module) (m : ℕ) → m < 2 ^ 64 → sentTo m g ≡ sendAt i x (t .count) (sentTo (t .mask) (t .after))
@@ -341,7 +351,7 @@ module _ {M : Type 1} (𝓤 : URA M) (H : Heap 𝓤) (A : Atoms 𝓤) (W : Given
 
       -- its word and its mark
       posts : (v : Vcpu) → Words (v .irr) → (e : Option Val) → {next : Code} {Q : Post′ 𝓤 H}
-          → Step (Go {0}) W (turning (posted (d .p) v) e) (runs (𝓣 .C) (𝓣 .Λ) En next Q) (turning v e) (runs (𝓣 .C) (𝓣 .Λ) En (post-code next) Q)
+          → Step (Go {0}) W (turning (reached-by v) e) (runs (𝓣 .C) (𝓣 .Λ) En next Q) (turning v e) (runs (𝓣 .C) (𝓣 .Λ) En (post-code next) Q)
       posts v ws e =
           let p : Posting = d .p in
           let u : ℕ = getD (v .irr) (p .word) 0 in
@@ -350,7 +360,7 @@ module _ {M : Type 1} (𝓤 : URA M) (H : Heap 𝓤) (A : Atoms 𝓤) (W : Given
           move ! for-word $
           ors-word ! irr g b o k (p .word) (p .bits) below there in-w v (ws .small (p .word) in-w) u-fits
           refl refl refl refl refl refl refl refl refl refl refl refl refl refl refl refl refl
-          (load ! (from ! (fld ! refl (stop !))) (look-in ! 26 (sub ! 2 refl (whole !)))) $
+          (load ! (from ! (fld ! refl (stop !))) (look-in ! 26 (sub ! 3 refl (whole !)))) $
           move ! (backs for-word 0 46) $ move ! for-mark $
           ors-mark ! g b o k (p .nmi) below there (wordIn p v) refl refl refl refl refl refl refl refl refl refl
           (load ! (from ! (fld ! refl (stop !))) (look-in ! 19 (sub ! 0 refl (whole !)))) $
@@ -366,7 +376,7 @@ module _ {M : Type 1} (𝓤 : URA M) (H : Heap 𝓤) (A : Atoms 𝓤) (W : Given
         -- the record is reached
         hits-it : (c₁ c₂ c₃ c₄ c₅ c₆ : Val) → (there : k < length (g .vcpus)) → (v : Vcpu) → Words (v .irr)
             → ((e : Bool) → e ≡ isNew (d .p) (getD (v .irr) (d .p .word) 0) (v .nmi)
-            → sentTo (bitOr m (bit-of e k)) (withVcpu g k (posted (d .p) v)) ≡ sendAt i x k (sentTo m g))
+            → sentTo (bitOr m (bit-of e k)) (withVcpu g k (reached-by v)) ≡ sendAt i x k (sentTo m g))
             → Sq W (turning g k m (full c₁) (full c₂) (full c₃) (full c₄) (full c₅) (full c₆) below there v none)
             (runs (𝓣 .C) (𝓣 .Λ) En (new-code (post-code bit-code)) Then)
         hits-it c₁ c₂ c₃ c₄ c₅ c₆ there v ws so =
@@ -379,7 +389,7 @@ module _ {M : Type 1} (𝓤 : URA M) (H : Heap 𝓤) (A : Atoms 𝓤) (W : Given
             assigns-last ! (bin ! (var ! 12 refl) (var ! 53 refl) tt) (from ! (stop !)) (store ! 12 refl (tt, record { fits = fits })) $
             forget ! 14 refl $ forget ! 15 refl $ forget ! 19 refl $ forget ! 20 refl $ forget ! 21 refl $ forget ! 22 refl $ forget ! 23 refl $
             forget ! 24 refl $ forget ! 51 refl $ forget ! 52 refl $ forget ! 53 refl $
-            record { prf = go-on (withVcpu g k (posted (d .p) v)) (bitOr m (bit-of e k)) fits (so e e-is) .prf })
+            record { prf = go-on (withVcpu g k (reached-by v)) (bitOr m (bit-of e k)) fits (so e e-is) .prf })
 
         looks : (c : Bool) → Sq W (standing (‵ (partAt T.the-row fullShare g b o)) (contents k m none none (full (vbool c) ∷ [])))
             (runs (𝓣 .C) (𝓣 .Λ) En look-code Q)
@@ -390,19 +400,19 @@ module _ {M : Type 1} (𝓤 : URA M) (H : Heap 𝓤) (A : Atoms 𝓤) (W : Given
             let ws : Words (vcpuAt g k .irr) = field-words (vcpuAt g k .irr) _ (facts .1 .0) in
             sets ! (un ! (var ! 13 refl) (record { fits = fits64 k below })) 14 refl (tt, record { fits = fits64 k below }) $
             move ! for-phase $ finds-record ! b o k below refl refl refl refl refl $ move ! (backs for-phase 0 24) $
-            sets ! (part-of ! g b o k below 8 refl (look ! 23 refl)) 24 refl
-            (EL.lawful F.the-type F′.the-laws 𝓤 H A W tt .typed (vcpuAt g k .phase) _ (facts .1 .1 .1 .1 .1 .1 .1 .1 .0) .0) $
+            sets ! (part-of ! g b o k below 9 refl (look ! 23 refl)) 24 refl
+            (EL.lawful F.the-type F′.the-laws 𝓤 H A W tt .typed (vcpuAt g k .phase) _ (facts .1 .1 .1 .1 .1 .1 .1 .1 .1 .0) .0) $
             asks-where (plain (λ _. u32) ∷ plain (λ _. u32) ∷ plain (λ _. F.the-row) ∷ []) (yes, (yes, (yes, tt))) (plain (λ _. bool))
             (λ a r. r ≡ (bitAt (a .0) (a .1 .0) && isActive (a .1 .1 .0))) (λ a. a .1 .0 < 32)
             ! (fmOf 𝓤 H (W .laws) 𝓣) vbool bool-tells (uint-makes 𝓤 H A W w32, (uint-makes 𝓤 H A W w32, (EL.makes F.the-type F′.the-plain 𝓤 H A, tt)))
             (known .reaches-known) (d .y, (k, (vcpuAt g k .phase, tt))) below (vint w32 (d .y) ∷ [], (vint w32 k ∷ [], (_ ∷ [], tt)))
-            ((refl, d .y-fits), ((refl, fit32′ k below), (facts .1 .1 .1 .1 .1 .1 .1 .1 .0, tt)))
+            ((refl, d .y-fits), ((refl, fit32′ k below), (facts .1 .1 .1 .1 .1 .1 .1 .1 .1 .0, tt)))
             (and-then ! (var ! 9 refl) (and-then ! (var ! 13 refl) (and-then ! (var ! 24 refl) (no-more !)))) (λ r r-is _.
             land ! (from ! (stop !)) (init ! 20 refl (tt, tt)) $
             guards ! (var ! 20 refl)
             (λ hit. in-hand ! g b o k $ hits-it _ _ _ _ _ _ there (vcpuAt g k) ws
-            (λ e e-is. reached i x k below g m (d .y) (d .y-is) r r-is (is-so r hit) (d .p) (d .p-is) ws e e-is (posted (d .p) (vcpuAt g k))
-            (posted-is (d .p) (vcpuAt g k) in-w ws)))
+            (λ e e-is. reached i x k below g m (d .y) (d .y-is) r r-is (is-so r hit) (d .p) (d .p-is) ws e e-is (reached-by (vcpuAt g k))
+            (reached-is (vcpuAt g k) ws)))
             (λ miss. forget ! 14 refl $ forget ! 19 refl $ forget ! 20 refl $ forget ! 21 refl $ forget ! 22 refl $ forget ! 23 refl $ forget ! 24 refl $
             go-on g m m-fits (passed i x k below g m (d .y) (d .y-is) r r-is (is-not r miss))))))
 
@@ -444,9 +454,9 @@ module _ {M : Type 1} (𝓤 : URA M) (H : Heap 𝓤) (A : Atoms 𝓤) (W : Given
       (known .posting-known) (z, tt) (_ ∷ [], tt) (is-z, tt) (and-then ! (var ! 18 refl) (no-more !)) (λ p p-is is-p.
       let facts = LL.owed S.the-type S′.the-laws p _ is-p in
       let d : Ready x i =
-      record { y = y; y-is = y-is; y-fits = y-fits .1; item = z; p = p; p-is = p-is ∙ ap postingOf z-is; bits-fit = facts .1 .1 .0 .1; is-p = is-p } in
+      record { y = y; y-is = y-is; y-fits = y-fits .1; item = z; p = p; p-is = p-is ∙ ap postingOf z-is; bits-fit = facts .1 .1 .1 .0 .1; is-p = is-p } in
       land ! (from ! (stop !)) (init ! 10 refl (LL.lawful S.the-type S′.the-laws 𝓤 H A W .typed p _ is-p .0)) $
-      sets ! (of-opd ! (load ! (from ! (fld ! refl (stop !))) (look-in ! 10 (sub ! 1 refl (whole !))))) 11 refl (tt, record { fits = facts .1 .0 .1 }) $
+      sets ! (of-opd ! (load ! (from ! (fld ! refl (stop !))) (look-in ! 10 (sub ! 2 refl (whole !))))) 11 refl (tt, record { fits = facts .1 .1 .0 .1 }) $
       sets ! (of-opd ! (lit ! tt)) 12 refl (tt, record { fits = lit< tt }) $
       sets ! (of-opd ! (lit ! tt)) 13 refl (tt, record { fits = lit< tt }) $
       first ! $ blocks ! $ loops ! 𝓣 (Nearer h i x n) (Nearer-wf h i x n) (At bs n e d) (turns bs n e d)

@@ -21,6 +21,7 @@ of-sets p s =
       «irr_level» = s;
       «isr_level» = s;
       nmi = false;
+      «machine_check» = false;
       tpr = 0;
       icr = 0;
       phase = p;

@@ -13,7 +13,7 @@ returns c =
     let a = c .before .before .before .before .before .args in
     let k : 64 * a .vmpl + 64 - 64 * a .vmpl ≡ 64 = omega arith in
     put-back (a .vmpl) (c .before .before .write-handed .last .0)
-    (handedBytes (a .irr) (a .irr-level) (a .nmi) (a .isr) (a .isr-level)) (a .page .now) k (c .before .before .write-handed .ensures)
+    (handedBytes (a .irr) (a .irr-level) (a .nmi) (a .machine-check) (a .isr) (a .isr-level)) (a .page .now) k (c .before .before .write-handed .ensures)
 
 pub hand-over-spec : {M : Type 1} → statement M
 hand-over-spec =

@@ -17,7 +17,7 @@ returns c =
     let start = made .before .before .before in
     let a = start .args in
     halves (a .bytes .now) (first .last .0) (c .before .before .write-set .last .0) (start .pre)
-    (ap length (first .ensures) ∙ bytesFrom-length (handedBit (a .irr) (a .irr-level) (a .nmi)) 0 32)
+    (ap length (first .ensures) ∙ bytesFrom-length (handedBit (a .irr) (a .irr-level) (a .nmi) (a .machine-check)) 0 32)
     ∙ ap₂ _++_ (first .ensures)
     (serving-of (a .isr) (a .isr-level) (made .before .difference .ensures) (made .from-lowest .ensures) (c .before .before .write-set .ensures))
 

@@ -16,7 +16,7 @@ returns c =
     let made = c .before .before .before .before in
     let found = made .before .before .before in
     let a = found .before .before .before .before .args in
-    pending-of (a .irr) (a .level) (a .nmi) (found .before .before .difference .ensures) (found .before .from-lowest .ensures)
+    pending-of (a .irr) (a .level) (a .nmi) (a .machine-check) (found .before .before .difference .ensures) (found .before .from-lowest .ensures)
     (c .before .before .write-set .ensures)
     (found .highest-or-0 .ensures) (made .before .before .is-empty .ensures) (made .before .is-empty2 .ensures) (made .flags .ensures)
 

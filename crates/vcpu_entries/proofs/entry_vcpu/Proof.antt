@@ -45,21 +45,29 @@ returns-2 c =
 
 returns-3 : tie.Need-returns-3
 returns-3 c =
+    let d = c .before .before .before in
+    let a = d .before .before .before .args in
+    entering (a .iflag) (a .shadow) (a .blocked) (a .v) (c .present-machine-check .result) (d .offer-of .result) (d .before .enum-told .given .1)
+    (d .offer-of .ensures)
+    (c .present-machine-check .ensures ∙ ap (λ (r : Presentation). after (presentedResult r) (forget (a .v))) (sym (c .before .enum-told3 .given .1)))
+
+returns-4 : tie.Need-returns-4
+returns-4 c =
     let t = c .before .before .presentation .given in
     let d = c .before .before .before .before in
     let a = d .before .before .before .args in
     entering (a .iflag) (a .shadow) (a .blocked) (a .v) (c .present-vector .result) (shown.Vector (t .0 .0)) (d .before .enum-told .given .1)
     (ap presentedResult (sym (t .1)) ∙ d .offer-of .ensures) (c .present-vector .ensures)
 
-returns-4 : tie.Need-returns-4
-returns-4 c =
+returns-5 : tie.Need-returns-5
+returns-5 c =
     let d = c .before .before in
     let a = d .before .before .before .args in
     entering (a .iflag) (a .shadow) (a .blocked) (a .v) (c .with-flight .result) (d .offer-of .result) (d .before .enum-told .given .1) (d .offer-of .ensures)
-    (c .with-flight .ensures ∙ none-shown (d .offer-of .result) (forget (a .v)) (c .before .match2 .keys3))
+    (c .with-flight .ensures ∙ none-shown (d .offer-of .result) (forget (a .v)) (c .before .match2 .keys4))
 
 pub entry-vcpu-spec : {M : Type 1} → statement M
 entry-vcpu-spec =
     tie.close
     (tie.spec (λ c. search needs) returns (λ c κs. search needs) (λ c. search needs) (λ c κs. search needs)
-    (λ c. search needs) (λ c κs. search needs) (λ c κs. search needs) returns-2 returns-3 returns-4)
+    (λ c. search needs) (λ c κs. search needs) (λ c. search needs) (λ c κs. search needs) (λ c κs. search needs) returns-2 returns-3 returns-4 returns-5)

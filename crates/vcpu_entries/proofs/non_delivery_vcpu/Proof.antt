@@ -50,10 +50,20 @@ returns-3 c =
 returns-4 : tie.Need-returns-4
 unfolding at nonDeliveryOn
 returns-4 c =
-    let e = c .before .before .before in
+    let e = c .before .before in
     let d = e .before .before in
     let v = d .before .before .args .v in
     ap steppedOut (c .returned2 .ensures)
+    ∙ ap (outOf (done 0)) (c .before .return-machine-check .ensures)
+    ∙ at-is v true _ (ap isActive (d .enum-told .given .1)) (e .enum-told4 .given .1)
+
+returns-5 : tie.Need-returns-5
+unfolding at nonDeliveryOn
+returns-5 c =
+    let e = c .before .before .before in
+    let d = e .before .before in
+    let v = d .before .before .args .v in
+    ap steppedOut (c .returned3 .ensures)
     ∙ ap (outOf (done 0)) (c .before .return-vector .ensures)
     ∙ at-is v true _ (ap isActive (d .enum-told .given .1)) (e .flight .given .1)
 
@@ -62,4 +72,5 @@ non-delivery-vcpu-spec =
     tie.close
     (tie.spec (λ c. search needs) (λ c κs. search needs) returns (λ c. search needs) (λ c κs. search needs)
     (λ c. search needs) (λ c κs. search needs) (λ c κs. search needs)
-    (λ c. search needs) (λ c κs. search needs) (λ c κs. search needs) returns-2 returns-3 returns-4)
+    (λ c. search needs) (λ c κs. search needs) (λ c κs. search needs)
+    (λ c. search needs) (λ c κs. search needs) (λ c κs. search needs) returns-2 returns-3 returns-4 returns-5)

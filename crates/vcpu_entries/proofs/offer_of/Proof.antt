@@ -1,4 +1,4 @@
--- `vcpu_entries::offer_of` meets its contract, by the test for the NMI. Assumes nothing.
+-- `vcpu_entries::offer_of` meets its contract, by the tests for the machine check and the NMI. Assumes nothing.
 use mathlib.Core.Path.{_≡_, refl, sym, ap, ap₂, _∙_}
 use mathlib.Core.Bool.{Bool, true, false, cond, not, _&&_, _||_}
 use mathlib.Core.Logic.{_⊎_, inl, inr, ⊎-elim}
@@ -13,13 +13,16 @@ use Rattle.model.specs.Events.{offerHighest, offer}
 use Rattle.vcpu_entries.proofs.offer_of.Statement.{statement}
 use Rattle.vcpu_entries.proofs.offer_of.Tie as tie
 
--- what is offered where the test for the NMI gives t, to a guest that is ready for a vector or not
+-- what is offered where no machine check is pending and the test for the NMI gives t, to a guest that is ready for a vector or not
 chosen : Bool → Bool → Vcpu → Answer
 chosen t ready v = cond t (presents item.Nmi) (offerHighest ready (ppr v) (highest (v .irr)))
 
-chosen-is : (iF sh bl t ready : Bool) (v : Vcpu) → t ≡ (v .nmi && not (sh || bl)) → ready ≡ (iF && not sh) → chosen t ready v ≡ offer iF sh bl v
+chosen-is : (iF sh bl t ready : Bool) (v : Vcpu) → v .«machine_check» ≡ false → t ≡ (v .nmi && not (sh || bl)) → ready ≡ (iF && not sh)
+    → chosen t ready v ≡ offer iF sh bl v
 unfolding chosen offer
-chosen-is iF sh bl t ready v e f = ap₂ (λ (t ready : Bool). chosen t ready v) e f
+chosen-is iF sh bl t ready v c e f =
+    ap₂ (λ (t ready : Bool). chosen t ready v) e f
+    ∙ ap (λ (b : Bool). cond b (presents item.MachineCheck) (chosen (v .nmi && not (sh || bl)) (iF && not sh) v)) (sym c)
 
 all-pass : (nmi sh bl : Bool) → nmi ≡ true → not sh ≡ true → not bl ≡ true → true ≡ (nmi && not (sh || bl))
 all-pass true false false e f g = refl
@@ -36,26 +39,30 @@ one-fails true false false (inr (inl e)) = clash (cc)
 one-fails true false false (inr (inr e)) = clash (cc)
 
 returns : tie.Need-returns
-unfolding chosen
-returns c =
-    let d = c .before .before in
-    let a = d .before .args in
-    ap answers
-    (chosen-is (a .iflag) (a .shadow) (a .blocked) true _ (a .v)
-    (all-pass (a .v .nmi) (a .shadow) (a .blocked) (d .if1 .taken) (c .before .if2 .taken) (c .if3 .taken)) refl)
+unfolding offer
+returns c = rw (c .if1 .taken)
 
 returns-2 : tie.Need-returns-2
 unfolding chosen
 returns-2 c =
     let d = c .before .before in
-    let a = d .before .args in
+    let a = d .before .before .args in
+    ap answers
+    (chosen-is (a .iflag) (a .shadow) (a .blocked) true _ (a .v) (d .before .if1 .left)
+    (all-pass (a .v .nmi) (a .shadow) (a .blocked) (d .if2 .taken) (c .before .if3 .taken) (c .if4 .taken)) refl)
+
+returns-3 : tie.Need-returns-3
+unfolding chosen
+returns-3 c =
+    let d = c .before .before in
+    let a = d .before .before .args in
     let ready : Bool → Bool = λ b. b && not (a .shadow) in
     c .offer-vector .ensures
     ∙ ap answers
-    (chosen-is (a .iflag) (a .shadow) (a .blocked) false _ (a .v)
+    (chosen-is (a .iflag) (a .shadow) (a .blocked) false _ (a .v) (d .before .if1 .left)
     (one-fails (a .v .nmi) (a .shadow) (a .blocked)
-    (⊎-elim (λ t. inl (t .2 .left)) (⊎-elim (λ t. inr (inl (t .1 .left))) (λ t. inr (inr (t .left)))) (d .if1 .came)))
-    (⊎-elim (λ t. t .1 ∙ ap ready (sym (t .0 .taken))) (λ t. t .1 ∙ t .0 .left ∙ ap ready (sym (t .0 .left))) (c .before .if4 .came)))
+    (⊎-elim (λ t. inl (t .2 .left)) (⊎-elim (λ t. inr (inl (t .1 .left))) (λ t. inr (inr (t .left)))) (d .if2 .came)))
+    (⊎-elim (λ t. t .1 ∙ ap ready (sym (t .0 .taken))) (λ t. t .1 ∙ t .0 .left ∙ ap ready (sym (t .0 .left))) (c .before .if5 .came)))
 
 pub offer-of-spec : {M : Type 1} → statement M
-offer-of-spec = tie.close (tie.spec returns (λ c κs. search needs) returns-2)
+offer-of-spec = tie.close (tie.spec returns returns-2 (λ c κs. search needs) returns-3)

@@ -1,4 +1,4 @@
--- `vcpu::items::post` meets its contract: the word, then the mark. Assumes nothing.
+-- `vcpu::items::post` meets its contract: the word, then the marks. Assumes nothing.
 use mathlib.Core.Path.{refl}
 use borrow.Author.Needs.{needs}
 use Rattle.vector_set.proofs.WordLaws.{field-words}
@@ -8,7 +8,7 @@ use Rattle.vcpu.proofs.items.post.Tie as tie
 
 returns : tie.Need-returns
 returns c =
-    let s = c .before .before .before in
+    let s = c .before .before .before .before in
     (refl, posted-is (s .args .posting) (s .args .v) (s .pre) (field-words (s .args .v .irr) _ (s .good .0 .1 .1 .1 .0)))
 
 pub post-spec : {M : Type 1} → statement M

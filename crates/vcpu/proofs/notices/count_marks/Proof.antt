@@ -1,4 +1,4 @@
--- `vcpu::notices::count_marks` meets its contract: at most two items beside the vectors of a set. Assumes nothing.
+-- `vcpu::notices::count_marks` meets its contract: at most three items beside the vectors of a set. Assumes nothing.
 use mathlib.Core.Path.{_≡_}
 use mathlib.Core.Bool.{Bool, not, _&&_}
 use mathlib.Core.List.{List}
@@ -14,10 +14,13 @@ use Rattle.vcpu.specs.Notices.{marksCounted}
 use Rattle.vcpu.proofs.notices.count_marks.Statement.{statement}
 use Rattle.vcpu.proofs.notices.count_marks.Tie as tie
 
-few : (p : Posting) (x : ℕ) (b : Bool) (c : Counts) → c ≡ countsOf p x b → (c .new ≤ 2) × (c .merged ≤ 2)
+few : (p : Posting) (x : ℕ) (b m : Bool) (c : Counts) → c ≡ countsOf p x b m → (c .new ≤ 3) × (c .merged ≤ 3)
 unfolding countsOf
-few p x b c e =
-    rw e (omega (arith, one-le (p .nmi && not b), one-le (addsBit p x)), omega (arith, one-le (p .nmi && b), one-le (meetsBit p x)))
+few p x b m c e =
+    rw e (
+      omega (arith, one-le (p .nmi && not b), one-le (p .«machine_check» && not m), one-le (addsBit p x)),
+      omega (arith, one-le (p .nmi && b), one-le (p .«machine_check» && m), one-le (meetsBit p x)),
+    )
 
 -- the numbers, from what each call gave
 counted : (e s : List ℕ) {c d : Counts} {m i : List ℕ} {a b : ℕ} → c ≡ d → m ≡ difference e s → i ≡ intersection e s → a ≡ count m → b ≡ count i
@@ -25,8 +28,8 @@ counted : (e s : List ℕ) {c d : Counts} {m i : List ℕ} {a b : ℕ} → c ≡
 unfolding marksCounted
 counted e s p q r f g = rw (f, g, q, r, p)
 
-of-start : (c : tie.After-counts-of) → (c .counts-of .result .new ≤ 2) × (c .counts-of .result .merged ≤ 2)
-of-start c = let a = c .before .args in few (a .posting) (a .word) (a .nmi) (c .counts-of .result) (c .counts-of .ensures)
+of-start : (c : tie.After-counts-of) → (c .counts-of .result .new ≤ 3) × (c .counts-of .result .merged ≤ 3)
+of-start c = let a = c .before .args in few (a .posting) (a .word) (a .nmi) (a .machine-check) (c .counts-of .result) (c .counts-of .ensures)
 
 add-new : tie.Need-add-new
 add-new c = omega (arith, of-start (c .before .before .before .before) .0, count-le (c .before .before .before .difference .result))

@@ -125,6 +125,8 @@ paired =
     ∷ samePages (pages (start 2 1) pair) (set (set zeros 65 0x41) 72 0x02 ∷ set (set zeros 65 0x40) 72 0x02 ∷ [])
     ∷ tells 0 item.Nmi (0 ∷ 2 ∷ 0 ∷ 0 ∷ [])
     ∷ tells 1 item.Nmi (2 ∷ 0 ∷ 1 ∷ 1 ∷ [])
+    ∷ tells 0 item.MachineCheck (0 ∷ 0 ∷ 0 ∷ 0 ∷ [])
+    ∷ tells 1 item.MachineCheck (0 ∷ 0 ∷ 0 ∷ 0 ∷ [])
     ∷ tells 0 (item.Vector 0x41) (0 ∷ 0 ∷ 1 ∷ 0 ∷ [])
     ∷ tells 1 (item.Vector 0x41) (0 ∷ 0 ∷ 2 ∷ 0 ∷ [])
     ∷ tells 0 (item.Vector 0x42) (0 ∷ 0 ∷ 0 ∷ 0 ∷ [])

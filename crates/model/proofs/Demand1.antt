@@ -1,14 +1,14 @@
 -- Demand 1, proved.
 -- Assumes nothing.
-use mathlib.Core.Path.{_≡_, refl, sym, ap, _∙_}
-use mathlib.Core.Bool.{Bool, true, false, cond, not, _&&_, or-false, and-false}
+use mathlib.Core.Path.{_≡_, refl, sym, ap, ap₂, _∙_}
+use mathlib.Core.Bool.{Bool, true, false, cond, not, _&&_, _||_, or-false, and-false, and-comm}
 use mathlib.Core.List.{[], _∷_}
 use mathlib.Core.Option.{Option, none, some}
-use Prim.Native.Nat.{ℕ, zero, suc, _%_, _≤_, _<_}
+use Prim.Native.Nat.{ℕ, zero, suc, _/_, _%_, _^_, _≤_, _<_}
 use native.Mathlib.Omega.{arith}
 use lib.Dec.{leb, ltb, eqb}
 use lib.ListN.{length}
-use borrow.Author.Tests.{leb-false, eqb-true, lt-ltb, le-ltb, lt-leb, ne-eqb}
+use borrow.Author.Tests.{leb-false, ltb-true, ltb-false, eqb-true, lt-ltb, le-ltb, lt-leb, eq-eqb, ne-eqb}
 use Rattle.model.specs.declared.Kind.{Kind}
 use Rattle.model.specs.declared.Kind.the-variants as kind
 use Rattle.model.specs.declared.Refusal.{Refusal}
@@ -26,7 +26,7 @@ use Rattle.model.specs.Ipi.{icrLegal}
 use Rattle.model.specs.Requests.{bad, registration, readBy, writeBy, writeValue, nameable, permission, requestOf, forget, serve, callVerdict}
 use Rattle.model.specs.Events.{Act, notice, call, entry, nonDelivery, handBack, at, Bytes, Event, pageOf, vcpuVerdict, verdict}
 use Rattle.model.specs.Events.{callEffect, effect, effectOf, concluded, Out, step, next, startResult, doStart}
-use Rattle.model.specs.Causes.{cause, firstCause, hasVcpu, inTable, badValue, badEcx, isKindNone, isKindRead, isKindWrite}
+use Rattle.model.specs.Causes.{cause, firstCause, hasVcpu, inTable, badValue, allowable, badEcx, isKindNone, isKindRead, isKindWrite}
 use Rattle.model.specs.Causes.{callCauses, causes, startCauses}
 use Rattle.model.specs.Demand1.{Demand1}
 use Rattle.vector_set.specs.Bits.{bitAt}
@@ -140,9 +140,31 @@ module _ (j : ℕ) (u : Vcpu) where
       pick true kind.Write h v = v refl refl
       pick true kind.Both h v = v refl refl
 
+  -- what call 4 takes, in both statements
+  named-is : (c : ℕ) → (eqb (c / 2 ^ 9) 0 && allowable (c % 2 ^ 8)) ≡ nameable c
+  unfolding nameable
+  named-is c =
+      and-comm (eqb (c / 2 ^ 9) 0) (allowable (c % 256))
+      ∙ ap₂ _&&_ (turn (within 31 255 (c % 256)) (eqb (c % 256) 18) (eqb (c % 256) 2)) (low (ltb c 512) refl)
+    where
+      low : (b : Bool) → ltb c 512 ≡ b → eqb (c / 2 ^ 9) 0 ≡ b
+      low true e = let h = ltb-true c 512 e in eq-eqb (c / 2 ^ 9) 0 (omega arith)
+      low false e = let h = ltb-false c 512 e in ne-eqb (c / 2 ^ 9) 0 (λ (q : c / 2 ^ 9 ≡ 0). omega arith)
+
+      turn : (a b d : Bool) → (a || b || d) ≡ (d || b || a)
+      turn true true true = refl
+      turn true true false = refl
+      turn true false true = refl
+      turn true false false = refl
+      turn false true true = refl
+      turn false true false = refl
+      turn false false true = refl
+      turn false false false = refl
+
   call-4 : (k c x : ℕ) → refusalIn (may k (permission c)) ≡ firstCause (callCauses k 4 c x)
   unfolding callVerdict serve permission callCauses badEcx firstCause
-  call-4 k c x = pick (nameable c) (bitAt c 8)
+  call-4 k c x =
+      pick (nameable c) (bitAt c 8) ∙ ap (λ (t : Bool). firstCause (cause 0x80000005 (not t) ∷ [])) (sym (named-is c))
     where
       pick : (t b : Bool)
           → refusalIn (may k (cond t (cond b (request.Local (local.Allow (c % 256))) (request.Local (local.Disallow (c % 256)))) bad))

@@ -19,12 +19,12 @@ use Rattle.vector_set.proofs.Laws.{clash}
 use Rattle.model.proofs.Stored.{needed}
 use Rattle.model.proofs.Reached.{AllSound, all-reached}
 use Rattle.model.proofs.ReadBack.{read-back}
-use Rattle.model.proofs.Kept.{keeps-level, calls-keep-level, calls-keep-pending, calls-keep-checks, keeps-inactive, keeps-beyond}
+use Rattle.model.proofs.Kept.{keeps-level, calls-keep-level, calls-keep-pending, calls-keep-checks, keeps-inactive, keeps-others, calls-forget, keeps-beyond}
 use Rattle.model.proofs.IcrBits.{reserved, set-apart, same-delivery}
 use Rattle.model.proofs.IcrWrites.{same-write, icr-reads, icr-touches}
 use Rattle.model.proofs.NoticeCounts.{notice-new, notice-sum, notice-pends, notice-levels, notice-touches}
 use Rattle.model.proofs.IpiNames.{icr-names, self-names, icr-reaches, self-reaches, self-touches}
-use Rattle.model.proofs.Presented.{checks-first, entry-pends, entry-touches, return-pends, return-touches, hand-back-empties}
+use Rattle.model.proofs.Presented.{checks-first, entry-pends, entry-touches, return-pends, return-touches, hand-back-keeps, hand-back-empties}
 use Rattle.model.proofs.ChecksApart.{calls-apart}
 
 -- ---- what acceptance tells
@@ -94,4 +94,7 @@ demand2 =
       handBackEmpties = hand-back-empties;
       callsKeepChecks = calls-keep-checks;
       callsApart = calls-apart;
+      keepsOthers = keeps-others;
+      handBackKeeps = hand-back-keeps;
+      callsForget = calls-forget;
     }

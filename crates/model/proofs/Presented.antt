@@ -152,6 +152,21 @@ return-touches m i r y j q f =
     (ap (λ (z : Option Item). unmarkAll (undelivered z v)) f ∙ unmarked-returned y q v) refl))
 
 -- ---- a hand-back
+-- TPR, ICR and what is in flight stay
+abbrev Keeps : Vcpu → Vcpu → Type 0
+Keeps u v = (v .tpr ≡ u .tpr) × (v .icr ≡ u .icr) × (v .flight ≡ u .flight)
+
+kept-emptied : (v : Vcpu) → Keeps v (emptied v)
+unfolding emptied unmarkAll
+kept-emptied v = (refl, refl, refl)
+
+pub hand-back-keeps : (m : Module) (i : ℕ) (p : Bytes) (iF sh : Bool) (j : ℕ) → Keeps (vcpuAt m j) (vcpuAt (next m (at i (handBack p iF sh))) j)
+unfolding concluded effect
+hand-back-keeps m i p iF sh j =
+    by-verdict m (at i (handBack p iF sh)) (λ o. Keeps (vcpuAt m j) (vcpuAt (o .after) j)) (λ c h. (refl, refl, refl))
+    (λ h. rw (vcpuAt-count)
+    (on-put m i (emptied (vcpuAt m i)) j (known-of m i (handBack p iF sh) h .there) (λ _ _ u v. Keeps u v) (kept-emptied (vcpuAt m i)) (refl, refl, refl)))
+
 pub hand-back-empties : (m : Module) (i r : ℕ) (p : Bytes) (iF sh : Bool) (x : Item) → InRange x → step m (at i (handBack p iF sh)) .result ≡ done r
     → pending x (vcpuAt (next m (at i (handBack p iF sh))) i) ≡ false
 unfolding concluded effect

@@ -4,7 +4,7 @@
 use mathlib.Core.Bool.{Bool, true, false, cond, not, _&&_, _||_}
 use mathlib.Core.List.{List, [], _∷_}
 use mathlib.Core.Option.{Option, none, some}
-use Prim.Native.Nat.{ℕ}
+use Prim.Native.Nat.{ℕ, _/_, _%_, _^_}
 use lib.Dec.{leb, ltb, eqb}
 use lib.ListN.{length}
 use Rattle.model.specs.declared.Kind.{Kind}
@@ -14,7 +14,6 @@ use Rattle.model.specs.State.{isActive, isLeaving, isInFlight, vcpuAt}
 use Rattle.vector_set.specs.Sets.{isVector}
 use Rattle.model.specs.Registers.{within, kindOf}
 use Rattle.model.specs.Ipi.{icrLegal}
-use Rattle.model.specs.Requests.{nameable}
 use Rattle.model.specs.Events.{Act, notice, call, entry, nonDelivery, handBack, Bytes, Event, lends}
 
 -- a cause: its code, and whether it holds
@@ -80,9 +79,13 @@ badValue c x =
     || (eqb c 0x808 && ltb 255 x)
     || (eqb c 0x830 && not (icrLegal x))
 
+-- a vector that call 4 takes, and bits 31:9 of its ECX clear (5.17)
+abbrev pub allowable : ℕ → Bool
+allowable v = within 31 255 v || eqb v 18 || eqb v 2
+
 -- the ECX of call 1 or 4 is not one that it takes (5.7, 5.17)
 unfoldable pub badEcx : ℕ → ℕ → Bool
-badEcx op c = (eqb op 1 && ltb 2 c) || (eqb op 4 && not (nameable c))
+badEcx op c = (eqb op 1 && ltb 2 c) || (eqb op 4 && not (eqb (c / 2 ^ 9) 0 && allowable (c % 2 ^ 8)))
 
 abbrev pub registering : ℕ → ℕ → Bool
 registering op c = eqb op 1 && eqb c 2

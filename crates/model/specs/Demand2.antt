@@ -1,4 +1,4 @@
--- Demand 2: the gate is what kernels expect (13.6 to 13.18, 13.35 to 13.60). That each event's result, module and page are those of
+-- Demand 2: the gate is what kernels expect (13.6 to 13.18, 13.35 to 13.63). That each event's result, module and page are those of
 -- `step` and `start` is said by the functions' contracts; here is what else is claimed of them.
 -- Assumes nothing.
 use mathlib.Core.Path.{_≡_}
@@ -82,7 +82,14 @@ pub record SameWrite (m : Module) (i x y : ℕ) : Type 0 where
   pub result : step m (writesIcr i x) .result ≡ step m (writesIcr i y) .result
   pub after : withIcrAt i 0 (next m (writesIcr i x)) ≡ withIcrAt i 0 (next m (writesIcr i y))
 
--- ---- the machine check
+-- ---- calls, and the machine check
+abbrev pub isCall : Act Bytes → Bool
+isCall (notice p) = false
+isCall (call op c x) = true
+isCall (entry iF sh bl) = false
+isCall nonDelivery = false
+isCall (handBack p iF sh) = false
+
 -- a module with no machine check pending
 unfoldable pub unchecked : Module → Module
 unchecked m = record { n = m .n; vmpl = m .vmpl; registrations = m .registrations; vcpus = map (withMachineCheck false) (m .vcpus) }
@@ -181,3 +188,13 @@ pub record Demand2 : Type 0 where
   pub callsApart : (m : Module) (i op c x : ℕ)
       → (step (unchecked m) (at i (call op c x)) .result ≡ step m (at i (call op c x)) .result)
       × (next (unchecked m) (at i (call op c x)) ≡ unchecked (next m (at i (call op c x))))
+  -- of every module value: an event that is no call leaves the record of every other vCPU as it is (13.61)
+  pub keepsOthers : (m : Module) (e : Event) (j : ℕ) → isCall (e .act) ≡ false → eqb j (e .vcpu) ≡ false → vcpuAt (next m e) j ≡ vcpuAt m j
+  -- of every module value: a hand-back leaves TPR, ICR and what is in flight, on every vCPU (13.62)
+  pub handBackKeeps : (m : Module) (i : ℕ) (p : Bytes) (iF sh : Bool) (j : ℕ)
+      → (vcpuAt (next m (at i (handBack p iF sh))) j .tpr ≡ vcpuAt m j .tpr)
+      × (vcpuAt (next m (at i (handBack p iF sh))) j .icr ≡ vcpuAt m j .icr)
+      × (vcpuAt (next m (at i (handBack p iF sh))) j .flight ≡ vcpuAt m j .flight)
+  -- of every module value: after an accepted call nothing is in flight at the caller (13.63)
+  pub callsForget : (m : Module) (i op c x r : ℕ) → step m (at i (call op c x)) .result ≡ done r
+      → vcpuAt (next m (at i (call op c x))) i .flight ≡ Nothing

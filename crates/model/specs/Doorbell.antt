@@ -95,12 +95,12 @@ inPart (item.Vector v) a = has (a .edge) v || isLevel (a .level) v
 unfoldable pub admitsMark : ℕ → ℕ → List ℕ → List ℕ → Bool
 admitsMark k x a d = bitOf d k && has a x
 
--- the single vector, admitted as level-sensitive (4.17, 4.22, 4.23)
+-- the single vector, admitted as level-sensitive (4.17, 4.22, 4.23, 4.41)
 unfoldable pub admitsLevel : List ℕ → List ℕ → Option ℕ
 admitsLevel a d =
     cond (bitOf d levelBit && isVector (vectorField d) && has a (vectorField d)) (some (vectorField d)) none
 
--- with bit 14 every marked vector but the level-sensitive one; with bits 10 and 14 clear the one in bits 7:0 (4.18, 4.19, 4.21 to 4.24)
+-- with bit 14 every marked vector but the level-sensitive one; with bits 10 and 14 clear the one in bits 7:0 (4.18, 4.19, 4.21 to 4.24, 4.41)
 unfoldable pub admitsEdge : List ℕ → List ℕ → ℕ → Bool
 admitsEdge a d v =
     isVector v && has a v
@@ -129,7 +129,7 @@ unfoldable pub items : Part → ℕ
 items a = one (a .nmi) + one (a .machineCheck) + one (isSome (a .level)) + count (a .edge)
 
 -- ---- the page after a notice
--- k is a bit of the descriptor that is cleared, given its bit 14 (4.31, 4.32, 4.34, 4.35)
+-- k is a bit of the descriptor that is cleared, given its bit 14 (4.31, 4.32, 4.34, 4.35, 4.43)
 unfoldable pub clearsBit : Bool → ℕ → Bool
 clearsBit many k = leb k 10 || eqb k manyBit || (many && leb 31 k)
 

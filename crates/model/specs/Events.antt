@@ -68,7 +68,7 @@ abbrev pub pageOf : Act Bytes → Bytes
 pageOf a = Option·getD (lends a) []
 
 -- ---- what an event does to a record
--- a notice: the items of its part become pending, the level-sensitive one also as such (4.25 to 4.28, 4.36, 5.4)
+-- a notice: the items of its part become pending, the level-sensitive one also as such (4.25 to 4.28, 4.36, 4.42, 4.43, 5.4)
 unfoldable pub noticed : Part → Vcpu → Vcpu
 noticed a v =
     withIrrLevel (collect (λ x. has (v .«irr_level») x || isLevel (a .level) x)) (markAll (λ x. inPart x a) v)

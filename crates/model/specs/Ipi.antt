@@ -38,7 +38,7 @@ icrDestination x = x / 2 ^ 32
 unfoldable pub icrReservedClear : ℕ → Bool
 icrReservedClear x = eqb (x / 2 ^ 12 % 4) 0 && eqb (x / 2 ^ 16 % 4) 0 && eqb (x / 2 ^ 20 % 2 ^ 12) 0
 
--- Fixed, with a vector that may be sent (7.9)
+-- Fixed, with a vector that may be sent (7.9, 7.27)
 unfoldable pub icrIsFixed : ℕ → Bool
 icrIsFixed x = eqb (icrType x) 0 && isVector (icrVector x)
 
@@ -51,7 +51,7 @@ unfoldable pub icrLegal : ℕ → Bool
 icrLegal x = icrReservedClear x && (icrIsFixed x || icrIsNmi x)
 
 -- ---- what a legal value sends, and to whom
--- the item that it sends (7.3, 7.17)
+-- the item that it sends (7.3, 7.17, 7.27)
 unfoldable pub icrItem : ℕ → Item
 icrItem x = cond (eqb (icrType x) 4) Nmi (Vector (icrVector x))
 

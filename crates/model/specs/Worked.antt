@@ -1,4 +1,4 @@
--- Further worked cases (14.21 to 14.40, 14.42, 14.43, 14.46 to 14.58), for what no claim says otherwise, and all cases of single events in one proposition.
+-- Further worked cases (14.21 to 14.40, 14.42, 14.43, 14.46 to 14.58), for what no claim says otherwise; those of the machine check stand in WorkedChecks.
 -- Assumes nothing.
 use mathlib.Core.Path.{_≡_}
 use mathlib.Core.Bool.{Bool, true, false, not, _&&_}
@@ -30,7 +30,7 @@ abbrev filled : ℕ → ℕ → ℕ → List ℕ → List ℕ
 filled i b zero p = p
 filled i b (suc n) p = set (filled i b n p) (i + n) b
 
-abbrev pub ones : List ℕ
+abbrev ones : List ℕ
 ones = replicate 256 0xFF
 
 abbrev pub pageAfter : Module → Event → List ℕ
@@ -124,7 +124,7 @@ nmiSent = next fresh2 (icr 0xC4400)
 abbrev handedRecord : Vcpu
 handedRecord = vcpuAt (next (having mixed) (at 0 (handBack ones false true))) 0
 
-abbrev pub hasLeft : Phase → Bool
+abbrev hasLeft : Phase → Bool
 hasLeft Active = false
 hasLeft Leaving = false
 hasLeft Left = true

@@ -6,17 +6,19 @@ use mathlib.Core.List.{List, [], _∷_}
 use Prim.Native.Nat.{ℕ}
 use lib.ListN.{set}
 use Rattle.model.specs.declared.Phase.the-variants.{Leaving}
+use Rattle.model.specs.declared.InFlight.{InFlight}
+use Rattle.model.specs.declared.InFlight.the-variants as flight
 use Rattle.model.specs.declared.Item.{Item}
 use Rattle.model.specs.declared.Item.the-variants as item
 use Rattle.model.specs.declared.Vcpu.{Vcpu}
 use Rattle.model.specs.declared.Module.{Module}
-use Rattle.vector_set.specs.Sets.{empty, full, insert, remove}
-use Rattle.model.specs.State.{vcpuAt, withVcpu, withAllowed, withIrr, withIsr, withNmi, withMachineCheck, withTpr, withPhase}
+use Rattle.vector_set.specs.Sets.{empty, full, remove}
+use Rattle.model.specs.State.{vcpuAt, withIrr, withIsr, withNmi, withMachineCheck, withTpr, withPhase}
 use Rattle.model.specs.Items.{pending}
-use Rattle.model.specs.Events.{notice, call, entry, nonDelivery, handBack, at, Event, Out, step, next}
-use Rattle.model.specs.Cases.{sameNumbers, gives, counts, isRefused, isNothing, fresh2, having, record0, singleton}
-use Rattle.model.specs.Cases.{zeros, announcing, byte64, onPage, resultOn, every}
-use Rattle.model.specs.Worked.{pageAfter, eoi, icr, reads, isShown, answersBy, enters, told, hasLeft, ones, irrOf}
+use Rattle.model.specs.Events.{notice, call, nonDelivery, handBack, at, Event, next}
+use Rattle.model.specs.Cases.{sameNumbers, gives, counts, isRefused, fresh2, having, record0, singleton}
+use Rattle.model.specs.Cases.{zeros, announcing, onPage, resultOn, every}
+use Rattle.model.specs.Worked.{pageAfter, eoi, icr, reads, isShown, answersBy, enters, told, irrOf}
 
 -- what is pending at vCPU 0 by its mark
 abbrev marked : Item → Module → Bool
@@ -28,6 +30,14 @@ checkPage = set announcing 65 0x02
 
 abbrev threePage : List ℕ
 threePage = set (set announcing 64 0x41) 65 0x03
+
+-- of the three items of that page the NMI, the machine check and 0x41 are pending, as said
+abbrev same : Bool → Bool → Bool
+same true b = b
+same false b = not b
+
+abbrev pends : Bool → Bool → List ℕ → Module → Bool
+pends n c s m = same n (marked item.Nmi m) && same c (marked item.MachineCheck m) && sameNumbers (irrOf m 0) s
 
 -- a record with its machine check pending
 abbrev checked : Vcpu
@@ -50,6 +60,19 @@ free = enters true false false
 
 abbrev shows : Item → Module → Event → Bool
 shows y m e = answersBy (isShown y) (resultOn m e)
+
+abbrev isCheck : InFlight → Bool
+isCheck flight.Nothing = false
+isCheck flight.Nmi = false
+isCheck flight.MachineCheck = true
+isCheck (flight.Vector v) = false
+
+-- leaving with a machine check
+abbrev goes : Module
+goes = having (withPhase Leaving checked)
+
+abbrev back : Event
+back = at 0 (handBack zeros true false)
 
 abbrev allows : ℕ → Bool
 allows c = gives 0 (resultOn fresh2 (at 0 (call 4 c 0)))
@@ -80,34 +103,42 @@ checks =
     ∷ sameNumbers (onPage (remove 18 full) checkPage .page) zeros
     ∷ counts 0 0 (onPage full (set checkPage 3 0) .result)
     ∷ not (marked item.MachineCheck (onPage full (set checkPage 3 0) .after))
-    -- 14.61: three items, none and one of them pending
+    ∷ sameNumbers (onPage full (set checkPage 3 0) .page) (set checkPage 3 0)
+    -- 14.61: three items, none and one of them pending; one of them allowed
     ∷ counts 3 0 (told record0 threePage .result)
-    ∷ (marked item.MachineCheck (told record0 threePage .after) && marked item.Nmi (told record0 threePage .after))
-    ∷ sameNumbers (irrOf (told record0 threePage .after) 0) (singleton 0x41)
+    ∷ pends true true (singleton 0x41) (told record0 threePage .after)
     ∷ counts 2 1 (told checked threePage .result)
+    ∷ counts 1 0 (onPage (singleton 2) threePage .result)
+    ∷ pends true false empty (onPage (singleton 2) threePage .after)
+    ∷ counts 1 0 (onPage (singleton 18) threePage .result)
+    ∷ pends false true empty (onPage (singleton 18) threePage .after)
+    ∷ counts 1 0 (onPage (singleton 0x41) threePage .result)
+    ∷ pends false false (singleton 0x41) (onPage (singleton 0x41) threePage .after)
     -- 14.62: 18 in bits 7:0, 18 with bit 10, and bit 18 under bit 14, which stays in the page
     ∷ counts 0 0 (told record0 (set announcing 64 18) .result)
     ∷ not (marked item.MachineCheck (told record0 (set announcing 64 18) .after))
     ∷ counts 0 0 (told record0 (set (set announcing 64 18) 65 0x04) .result)
+    ∷ not (marked item.MachineCheck (told record0 (set (set announcing 64 18) 65 0x04) .after))
     ∷ counts 0 0 (told record0 (set (set announcing 65 0x40) 66 0x04) .result)
     ∷ not (marked item.MachineCheck (told record0 (set (set announcing 65 0x40) 66 0x04) .after))
     ∷ sameNumbers (told record0 (set (set announcing 65 0x40) 66 0x04) .page) (set zeros 66 0x04)
-    -- 14.63: presented before the NMI and held by nothing; the NMI keeps its mark and comes next
+    -- 14.63: presented before the NMI and held by nothing, and in flight; the NMI keeps its mark and comes next
     ∷ shows item.MachineCheck busy held
+    ∷ isCheck (vcpuAt (next busy held) 0 .flight)
     ∷ (marked item.Nmi (next busy held) && not (marked item.MachineCheck (next busy held)))
     ∷ shows item.Nmi (next busy held) free
     ∷ shows item.MachineCheck busy free
-    ∷ shows item.MachineCheck (having (withIrr (singleton 0x41) checked)) free
-    ∷ shows (item.Vector 0x41) (next (having (withIrr (singleton 0x41) checked)) free) free
+    ∷ shows item.MachineCheck (having (withIrr (singleton 0x1F) checked)) free
+    ∷ shows (item.Vector 0x1F) (next (having (withIrr (singleton 0x1F) checked)) free) free
     -- 14.64: returned and presented again; forgotten by a call
     ∷ gives 0 (resultOn (next busy held) (at 0 nonDelivery))
     ∷ shows item.MachineCheck (next (next busy held) (at 0 nonDelivery)) held
     ∷ isRefused 4 (resultOn (next (next busy held) (at 0 (call 0 0 0))) (at 0 nonDelivery))
     -- 14.65: handed back, alone and with the NMI and 0x41
-    ∷ sameNumbers (pageAfter (having (withPhase Leaving checked)) (at 0 (handBack zeros true false))) (set zeros 65 0x02)
-    ∷ not (marked item.MachineCheck (next (having (withPhase Leaving checked)) (at 0 (handBack zeros true false))))
-    ∷ sameNumbers (pageAfter (having (withPhase Leaving (withNmi true (withIrr (singleton 0x41) checked)))) (at 0 (handBack zeros true false)))
-    (set (set zeros 65 0x43) 72 0x02)
+    ∷ gives 65537 (resultOn goes back)
+    ∷ sameNumbers (pageAfter goes back) (set zeros 65 0x02)
+    ∷ not (marked item.MachineCheck (next goes back))
+    ∷ sameNumbers (pageAfter (having (withPhase Leaving (withNmi true (withIrr (singleton 0x41) checked)))) back) (set (set zeros 65 0x43) 72 0x02)
     -- 14.66: call 4
     ∷ allows 0x112
     ∷ allows 0x12

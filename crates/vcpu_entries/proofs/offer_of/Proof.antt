@@ -40,7 +40,9 @@ one-fails true false false (inr (inr e)) = clash (cc)
 
 returns : tie.Need-returns
 unfolding offer
-returns c = rw (c .if1 .taken)
+returns c =
+    let marked : c .before .args .v .«machine_check» ≡ true = c .if1 .taken in
+    rw marked
 
 returns-2 : tie.Need-returns-2
 unfolding chosen

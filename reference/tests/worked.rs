@@ -595,6 +595,17 @@ fn a_machine_check_among_three_items() {
     let (answer, after) = told(&marked, &three);
     assert_eq!(answer, counted(2, 1));
     assert_eq!(after, expected);
+    for (allowed, nmi, machine_check, vectors) in [
+        (2, true, false, &[][..]),
+        (18, false, true, &[]),
+        (0x41, false, false, &[0x41]),
+    ] {
+        let mut m = allowing(&[allowed]);
+        assert_eq!(notice(&mut m, 0, &mut page(&three)), counted(1, 0));
+        assert_eq!(m.records[0].nmi, nmi);
+        assert_eq!(m.records[0].machine_check, machine_check);
+        assert_eq!(m.records[0].pending, set(vectors));
+    }
 }
 
 /// 14.62
@@ -633,9 +644,9 @@ fn nothing_holds_a_machine_check_back() {
         Ok(MACHINE_CHECK)
     );
     let mut m = fresh(2, 1);
-    m.records[0] = pending(&[0x41], false);
+    m.records[0] = pending(&[0x1F], false);
     m.records[0].machine_check = true;
-    for shown in [MACHINE_CHECK, presented(0x41)] {
+    for shown in [MACHINE_CHECK, presented(0x1F)] {
         assert_eq!(entry(&mut m, 0, true, false, false), Ok(shown));
     }
 }

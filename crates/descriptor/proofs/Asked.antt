@@ -18,7 +18,8 @@ module _ (a d : List ℕ) where
   unfolding admitsMark
   admitted-is k x p e = rw (← p) e
 
-  pub request-is : {n c : Bool} {s l : ℕ} (m : Bool) → bitOf d manyBit ≡ m → n ≡ admitsMark nmiBit 2 a d → c ≡ admitsMark machineCheckBit 18 a d → s ≡ singleBit a (vectorField d) → l ≡ levelOf a d
+  pub request-is : {n c : Bool} {s l : ℕ} (m : Bool) → bitOf d manyBit ≡ m → n ≡ admitsMark nmiBit 2 a d → c ≡ admitsMark machineCheckBit 18 a d
+      → s ≡ singleBit a (vectorField d) → l ≡ levelOf a d
       → _≡_ {A = Requested}
       (record { posting = record { nmi = n; «machine_check» = c; word = vectorField d / 32; bits = cond m l s }; level = l; many = m })
       (requestedIn a d)

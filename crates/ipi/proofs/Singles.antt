@@ -40,7 +40,8 @@ pub none-adds : (x : ℕ) → not (eqb (bitAnd 0 (2 ^ 32 - 1 - x)) 0) ≡ false
 none-adds x = none-meets (2 ^ 32 - 1 - x)
 
 -- ---- the posting of an item that is sent makes it pending where it was not
-pub new-is : (y : Item) (v : Vcpu) → isMachineCheck y ≡ false → Byte y → Words (v .irr) → isNew (postingOf y) (getD (v .irr) (postingOf y .word) 0) (v .nmi) ≡ not (pending y v)
+pub new-is : (y : Item) (v : Vcpu) → isMachineCheck y ≡ false → Byte y → Words (v .irr)
+    → isNew (postingOf y) (getD (v .irr) (postingOf y .word) 0) (v .nmi) ≡ not (pending y v)
 unfolding isNew postingOf has
 new-is Nmi v n b ws = refl
 new-is MachineCheck v n b ws = clash (cc)

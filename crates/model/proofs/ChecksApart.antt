@@ -1,13 +1,12 @@
 -- A guest call reads no mark of a machine check, of every module value.
 -- Assumes nothing.
-use mathlib.Core.Path.{_≡_, refl, sym, ap, ap₂, _∙_}
-use mathlib.Core.Bool.{Bool, true, false, cond, not, _&&_}
+use mathlib.Core.Path.{_≡_, refl, ap, ap₂, _∙_}
+use mathlib.Core.Bool.{Bool, true, false, cond}
 use mathlib.Core.List.{List, [], _∷_, map}
 use mathlib.Core.Option.{Option, none, some}
 use Prim.Native.Nat.{ℕ, zero, suc, _+_, _-_}
-use lib.Dec.{ltb, eqb}
-use lib.ListN.{getD, set, List·getD-map}
-use Rattle.vector_set.specs.Bits.{bits}
+use lib.Dec.{eqb}
+use lib.ListN.{set, List·getD-map}
 use Rattle.vector_set.specs.Sets.{highest}
 use Rattle.vector_set.proofs.BitLaws.{bits-ext}
 use Rattle.vector_set.proofs.Laws.{clash}
@@ -15,13 +14,12 @@ use Rattle.model.specs.declared.Item.{Item}
 use Rattle.model.specs.declared.Item.the-variants.{Nmi, MachineCheck, Vector}
 use Rattle.model.specs.declared.Local.{Local}
 use Rattle.model.specs.declared.Local.the-variants as local
-use Rattle.model.specs.declared.Refusal.the-variants.{UnknownVcpu, NotActive}
 use Rattle.model.specs.declared.Request.{Request}
 use Rattle.model.specs.declared.Request.the-variants as request
 use Rattle.model.specs.declared.Target.{Target}
 use Rattle.model.specs.declared.Vcpu.{Vcpu}
 use Rattle.model.specs.declared.Module.{Module}
-use Rattle.model.specs.State.{isActive, bare, absent, size, vcpuAt, withVcpu, withRegistrations, withMachineCheck}
+use Rattle.model.specs.State.{bare, absent, size, vcpuAt, withVcpu, withRegistrations, withMachineCheck}
 use Rattle.model.specs.Codes.{Verdict, accept, refuse, done}
 use Rattle.model.specs.Items.{isMachineCheck, pending, mark}
 use Rattle.model.specs.Registers.{ppr, tmr, registerValue, endedAt, ended, endedLevel}

@@ -1,8 +1,8 @@
 -- Whom an IPI's answer names, and whom it reaches.
 -- Assumes nothing.
-use mathlib.Core.Path.{_≡_, refl, sym, ap, ap₂, _∙_, subst}
-use mathlib.Core.Bool.{Bool, true, false, cond, not, _&&_, _||_, and-false}
-use Prim.Native.Nat.{ℕ, _+_, _%_, _<_, _≤_}
+use mathlib.Core.Path.{_≡_, refl, sym, ap, _∙_, subst}
+use mathlib.Core.Bool.{Bool, true, false, cond, not, _&&_, _||_}
+use Prim.Native.Nat.{ℕ, _+_, _<_, _≤_}
 use native.Mathlib.Omega.{arith}
 use lib.Dec.{leb, ltb, eqb}
 use lib.ListN.{length}
@@ -15,7 +15,6 @@ use Rattle.model.specs.declared.Item.{Item}
 use Rattle.model.specs.declared.Item.the-variants.{Nmi, MachineCheck, Vector}
 use Rattle.model.specs.declared.Local.the-variants as local
 use Rattle.model.specs.declared.Refusal.the-variants.{UnknownVcpu, NotActive}
-use Rattle.model.specs.declared.Request.{Request}
 use Rattle.model.specs.declared.Request.the-variants as request
 use Rattle.model.specs.declared.Target.{Target}
 use Rattle.model.specs.declared.Vcpu.{Vcpu}
@@ -25,8 +24,8 @@ use Rattle.model.specs.Codes.{accept, done}
 use Rattle.model.specs.Items.{InRange, sameItem, pending, mark, unmarkAll}
 use Rattle.model.specs.Registers.{isRead, isWrite, isBoth, kindOf}
 use Rattle.model.specs.Requests.{bad, writeValue, requestOf, forget, serve, callVerdict}
-use Rattle.model.specs.Ipi.{icrType, icrVector, icrItem, icrTarget, hits, reached, reach, sent, newBits}
-use Rattle.model.specs.Events.{call, at, vcpuVerdict, verdict, callEffect, effect, effectOf, Out, concluded, step, next}
+use Rattle.model.specs.Ipi.{icrType, icrVector, icrItem, icrTarget, hits, reached, reach, newBits}
+use Rattle.model.specs.Events.{call, at, vcpuVerdict, verdict, callEffect, effect, effectOf, concluded, step, next}
 use Rattle.model.specs.Demand2.{writesIcr, sendsSelf}
 use Rattle.model.proofs.Stored.{on-put, get-put, vcpuAt-count, vcpuAt-sent, size-put, size-count, size-le, needed, by-verdict, Known, known-of}
 use Rattle.model.proofs.ItemLaws.{pending-mark, unmarked-mark}

@@ -4,24 +4,24 @@ use mathlib.Core.Path.{_≡_, refl, sym, ap, ap₂, _∙_}
 use mathlib.Core.Bool.{Bool, true, false, cond, not, _&&_, _||_, and-false, or-false}
 use mathlib.Core.List.{List}
 use mathlib.Core.Option.{Option, none, some}
-use Prim.Native.Nat.{ℕ, _+_, _<_, _≤_}
+use Prim.Native.Nat.{ℕ, _+_, _<_}
 use native.Mathlib.Omega.{arith}
 use lib.Dec.{leb, eqb}
 use borrow.Author.Tests.{leb-true, eq-eqb}
 use Rattle.vector_set.specs.Bits.{one}
 use Rattle.vector_set.specs.Sets.{has, collect, empty, count}
-use Rattle.vector_set.proofs.Laws.{clash, has-collect, has-empty, collect-ext}
+use Rattle.vector_set.proofs.Laws.{clash, has-collect, collect-ext}
 use Rattle.vector_set.proofs.Counts.{count-split, count-with}
 use Rattle.model.specs.declared.Item.{Item}
 use Rattle.model.specs.declared.Item.the-variants.{Nmi, MachineCheck, Vector}
 use Rattle.model.specs.declared.Vcpu.{Vcpu}
 use Rattle.model.specs.declared.Module.{Module}
 use Rattle.model.specs.State.{vcpuAt, withIrrLevel}
-use Rattle.model.specs.Codes.{Result, counted, refused}
+use Rattle.model.specs.Codes.{counted}
 use Rattle.model.specs.Items.{InRange, itemCount, pending, markAll, unmarkAll}
-use Rattle.model.specs.Doorbell.{bitOf, levelBit, manyBit, vectorField, isVector, Part, noPart, isLevel, inPart, isSome, announces, descriptor}
+use Rattle.model.specs.Doorbell.{bitOf, levelBit, manyBit, vectorField, isVector, Part, noPart, isLevel, inPart, announces, descriptor}
 use Rattle.model.specs.Doorbell.{nmiBit, machineCheckBit, admitsMark, admitsLevel, admitsEdge, admits, admitted, items}
-use Rattle.model.specs.Events.{notice, at, Bytes, noticed, itemsNew, itemsMerged, effect, effectOf, concluded, Out, step, next}
+use Rattle.model.specs.Events.{notice, at, Bytes, noticed, itemsNew, itemsMerged, effect, concluded, step, next}
 use Rattle.model.proofs.Stored.{on-put, stored-at, vcpuAt-count, by-verdict, known-of}
 use Rattle.model.proofs.ItemLaws.{pending-markAll}
 
@@ -165,7 +165,8 @@ admitted-sum l a p = pick (announces l p)
   where
     pick : (b : Bool) → itemCount (λ x. inPart x (cond b (admits a (descriptor l p)) noPart)) ≡ items (cond b (admits a (descriptor l p)) noPart)
     pick true =
-        apart (admitsMark nmiBit 2 a (descriptor l p)) (admitsMark machineCheckBit 18 a (descriptor l p)) (admitsEdge a (descriptor l p)) (admitsLevel a (descriptor l p)) (level-apart a (descriptor l p))
+        apart (admitsMark nmiBit 2 a (descriptor l p)) (admitsMark machineCheckBit 18 a (descriptor l p)) (admitsEdge a (descriptor l p))
+        (admitsLevel a (descriptor l p)) (level-apart a (descriptor l p))
     pick false = apart false false (λ v. false) none (λ x e. clash (cc))
 
 pub items-sum : (l : ℕ) (a p : List ℕ) (v : Vcpu) → itemsNew (admitted l a p) v + itemsMerged (admitted l a p) v ≡ items (admitted l a p)

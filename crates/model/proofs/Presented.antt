@@ -1,6 +1,6 @@
 -- What an entry, a non-delivery and a hand-back leave pending, by item, of every module value.
 -- Assumes nothing.
-use mathlib.Core.Path.{_≡_, refl, sym, ap, _∙_, subst}
+use mathlib.Core.Path.{_≡_, refl, sym, ap, _∙_}
 use mathlib.Core.Bool.{Bool, true, false, cond, not, _&&_, _||_}
 use mathlib.Core.Option.{Option, none, some}
 use Prim.Native.Nat.{ℕ}
@@ -12,13 +12,13 @@ use Rattle.model.specs.declared.Item.{Item}
 use Rattle.model.specs.declared.Item.the-variants.{Nmi, MachineCheck, Vector}
 use Rattle.model.specs.declared.Vcpu.{Vcpu}
 use Rattle.model.specs.declared.Module.{Module}
-use Rattle.model.specs.State.{vcpuAt, withVcpu, withFlight}
+use Rattle.model.specs.State.{vcpuAt, withFlight}
 use Rattle.model.specs.Codes.{Answer, nothing, presents, window, done, answers, presentedIn}
 use Rattle.model.specs.Items.{InRange, hasMark, sameItem, isItem, itemInFlight, flightOf, pending, mark, unmark, unmarkAll}
 use Rattle.model.specs.Registers.{class, ppr}
 use Rattle.model.specs.Requests.{forget}
 use Rattle.model.specs.Events.{entry, nonDelivery, handBack, at, Bytes, offerHighest, offer, present, entered, giveBack, undelivered, emptied}
-use Rattle.model.specs.Events.{effect, Out, concluded, step, next}
+use Rattle.model.specs.Events.{effect, concluded, step, next}
 use Rattle.model.proofs.Stored.{on-put, stored-at, vcpuAt-count, by-verdict, known-of}
 use Rattle.model.proofs.ItemLaws.{pending-mark, pending-unmark, pending-unmarkAll}
 

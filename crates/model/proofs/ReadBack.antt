@@ -11,7 +11,8 @@ use lib.ListN.{length, getD, drop, length-append, length-take, length-drop, List
 use lib.Seq.{ext-getD, getD-take, getD-drop}
 use borrow.Author.Tests.{leb-true, leb-false, le-leb, lt-leb, eqb-true, eq-eqb, ne-eqb}
 use Rattle.model.specs.declared.Vcpu.{Vcpu}
-use Rattle.model.specs.Doorbell.{bitOf, bytesFrom, mapBits, announcingBit, announces, descriptor, vectorField, nmiBit, machineCheckBit, levelBit, manyBit, isVector}
+use Rattle.model.specs.Doorbell.{bitOf, bytesFrom, mapBits, announcingBit, announces, descriptor, vectorField, isVector}
+use Rattle.model.specs.Doorbell.{nmiBit, machineCheckBit, levelBit, manyBit}
 use Rattle.model.specs.Doorbell.{isLevel, admitsMark, admitsLevel, admitsEdge, admits, admitted, handedBit, servingBit, handedBytes, written}
 use Rattle.model.specs.Events.{handed}
 use Rattle.model.specs.Demand2.{announce, pendingPart}

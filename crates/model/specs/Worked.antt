@@ -14,7 +14,8 @@ use Rattle.model.specs.declared.Vcpu.{Vcpu}
 use Rattle.model.specs.declared.Module.{Module}
 use Rattle.vector_set.specs.Sets.{empty, full, insert}
 use Rattle.model.specs.Items.{sameItem}
-use Rattle.model.specs.State.{vcpuAt, start, withVcpu, withAllowed, withIrr, withIsr, withIrrLevel, withIsrLevel, withNmi, withMachineCheck, withTpr, withPhase}
+use Rattle.model.specs.State.{vcpuAt, start, withVcpu, withAllowed, withIrr, withIsr, withIrrLevel, withIsrLevel, withNmi, withMachineCheck}
+use Rattle.model.specs.State.{withTpr, withPhase}
 use Rattle.model.specs.Codes.{Answer, nothing, presents, window, Result, done, counted, answers, refused}
 use Rattle.model.specs.Registers.{kindOf}
 use Rattle.model.specs.Causes.{isKindNone, isKindRead, isKindWrite}

@@ -47,7 +47,8 @@ module _ (i x k : ℕ) (below : k < 32) (g : Module) (b y : ℕ) (y-is : y ≡ b
   reached so p p-is ws n n-is w w-is =
       let y = icrItem x in
       let v = vcpuAt g k in
-      let new : n ≡ not (pending y v) = n-is ∙ ap (λ (q : Posting). isNew q (getD (v .irr) (q .word) 0) (v .nmi)) p-is ∙ new-is y v (sent-item x) (byte-sent x) ws in
+      let new : n ≡ not (pending y v) =
+      n-is ∙ ap (λ (q : Posting). isNew q (getD (v .irr) (q .word) 0) (v .nmi)) p-is ∙ new-is y v (sent-item x) (byte-sent x) ws in
       rw (sym told ∙ so)
       (ap₂ (λ (z : ℕ) (u : Vcpu). sentTo (bitOr b z) (withVcpu g k u)) (shifted n ∙ ap (λ (t : Bool). one t * 2 ^ k) new) (w-is y p-is))
 

@@ -200,7 +200,8 @@ module _ (a d : List ℕ) (v : Vcpu) (wi : Words (v .irr)) (wl : Words (v .«irr
       let p : r .posting ≡ asked a d (levelled a d) = ap (λ (s : Requested). s .posting) is ∙ asks-many a d m in
       rw f (
         ap₂ (λ (q : Posting) (l : ℕ). marksAdded (collect (admitsEdge a d)) (requestAdded q l v)) p level-of ∙ many-added a d v wi wl byte m,
-        ap (λ (q : Posting). marksCounted (countsOf q (getD (v .irr) (q .word) 0) (v .nmi) (v .«machine_check»)) (collect (admitsEdge a d)) (requestAdded q (r .level) v .irr)) p
+        ap (λ (q : Posting). marksCounted (countsOf q (getD (v .irr) (q .word) 0) (v .nmi) (v .«machine_check»)) (collect (admitsEdge a d))
+            (requestAdded q (r .level) v .irr)) p
             ∙ many-counts a d v wi wl byte m,
       )
 

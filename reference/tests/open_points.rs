@@ -559,24 +559,27 @@ fn an_ipi_that_names_nobody_is_one_all_the_same() {
     }
 }
 
-/// 12.21: the bound counts an IPI to every active target, named or not, and none to another.
-#[test]
-fn sent_is_to_every_active_target() {
-    let call = |vcpu, call, ecx, rdx| Event::Call {
+fn called(vcpu: u32, call: u32, ecx: u32, rdx: u64) -> Event {
+    Event::Call {
         vcpu,
         call,
         ecx,
         rdx,
-    };
+    }
+}
+
+/// 12.21: the bound counts an IPI to every active target, named or not, and none to another.
+#[test]
+fn sent_is_to_every_active_target() {
     let list = [
         Event::Start { n: 3, vmpl: 1 },
-        call(1, 3, 0x83F, 0x41),
-        call(0, 3, 0x830, 0x0008_4041),
-        call(0, 3, 0x830, 0x0008_4041),
-        call(2, 1, DEREGISTER, 0),
-        call(0, 3, 0x830, 0x0008_4041),
-        call(1, 3, 0x830, 0x000C_4400),
-        call(1, 3, 0x830, 0x000C_4400),
+        called(1, 3, 0x83F, 0x41),
+        called(0, 3, 0x830, 0x0008_4041),
+        called(0, 3, 0x830, 0x0008_4041),
+        called(2, 1, DEREGISTER, 0),
+        called(0, 3, 0x830, 0x0008_4041),
+        called(1, 3, 0x830, 0x000C_4400),
+        called(1, 3, 0x830, 0x000C_4400),
     ];
     let played = played(&list, step);
     let answers = [2, 5, 0, 0, 0, 1, 0].map(|value| Answer::Call(Ok(value)));
@@ -969,19 +972,13 @@ fn the_bound_counts_machine_checks() {
         vcpu,
         page: page(&[(3, 1), (65, 0x02)]),
     };
-    let call = |vcpu, call, ecx, rdx| Event::Call {
-        vcpu,
-        call,
-        ecx,
-        rdx,
-    };
     let list = [
         Event::Start { n: 2, vmpl: 1 },
-        call(0, 4, 0x112, 0),
+        called(0, 4, 0x112, 0),
         notice(0),
         notice(0),
         notice(1),
-        call(1, 3, 0x830, 0x4012),
+        called(1, 3, 0x830, 0x4012),
         Event::Entry {
             vcpu: 0,
             if_set: false,
@@ -989,7 +986,7 @@ fn the_bound_counts_machine_checks() {
             blocked: true,
         },
         Event::NonDelivery { vcpu: 0 },
-        call(0, 4, 0x012, 0),
+        called(0, 4, 0x012, 0),
         notice(0),
     ];
     let played = played(&list, step);

@@ -1,4 +1,4 @@
-//! The cases worked here (14.21 to 14.44, 14.46 to 14.70), on an implementation that was written apart from the definitions.
+//! The cases worked here (14.21 to 14.44, 14.46 to 14.71), on an implementation that was written apart from the definitions.
 
 mod common;
 
@@ -646,6 +646,12 @@ fn nothing_holds_a_machine_check_back() {
     let mut m = fresh(2, 1);
     m.records[0] = pending(&[0x1F], false);
     m.records[0].machine_check = true;
+    let mut window = m.clone();
+    window.records[0].pending = set(&[0x41]);
+    assert_eq!(
+        entry(&mut window, 0, false, false, false),
+        Ok(MACHINE_CHECK)
+    );
     for shown in [MACHINE_CHECK, presented(0x1F)] {
         assert_eq!(entry(&mut m, 0, true, false, false), Ok(shown));
     }
@@ -764,4 +770,16 @@ fn a_worked_list_of_machine_checks() {
     let mut p = page(&[]);
     assert_eq!(hand_back(&mut m, 0, &mut p, false, true), Ok(65_538));
     assert_eq!(p, page(&[(65, 0x42), (72, 0x02)]));
+}
+
+/// 14.71
+#[test]
+fn bits_7_0_are_cleared_where_marks_count() {
+    let mut m = fresh(2, 1);
+    m.records[0].allowed = VectorSet::all();
+    let mut p = page(&[(3, 1), (64, 0x50), (65, 0x43), (72, 0x02)]);
+    assert_eq!(notice(&mut m, 0, &mut p), counted(3, 0));
+    assert_eq!(p, page(&[]));
+    assert!(m.records[0].nmi && m.records[0].machine_check);
+    assert_eq!(m.records[0].pending, set(&[0x41]));
 }

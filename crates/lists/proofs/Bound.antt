@@ -18,7 +18,7 @@ use Rattle.model.specs.declared.Request.the-variants as request
 use Rattle.model.specs.declared.Vcpu.{Vcpu}
 use Rattle.model.specs.declared.Module.{Module}
 use Rattle.model.specs.State.{isActive, size, vcpuAt, withVcpu}
-use Rattle.model.specs.Codes.{codeOf, accept, refuse, Answer, nothing, presents, window, Result, done, counted, refused, accepted, presentedIn}
+use Rattle.model.specs.Codes.{codeOf, accept, refuse, Answer, nothing, presents, window, Result, done, counted, refused, accepted, presentedIn, presentedBy}
 use Rattle.model.specs.Items.{isMachineCheck, InRange, sameItem, isItem, itemInFlight, pending, unmarkAll}
 use Rattle.model.specs.Doorbell.{Part, inPart, admitted}
 use Rattle.model.specs.Ipi.{icrItem, icrTarget, hits, reach, sent}
@@ -30,6 +30,8 @@ use Rattle.lists.specs.Lists.{results}
 use Rattle.lists.specs.Ledger.{Ledger, Quiet, addAdmitted, addSent, addPresented, addReturned, withLatest, writeSends, postAct, ledger, opened, ledgerOf}
 use Rattle.vector_set.specs.Bits.{one}
 use Rattle.model.proofs.Stored.{on-put, vcpuAt-count, size-put, count-same, vcpuAt-sent, by-verdict, Known, known-of}
+use Rattle.model.specs.Demand2.{isCall}
+use Rattle.vector_set.proofs.Laws.{clash}
 use Rattle.lists.proofs.BookLaws.{record-book}
 use Rattle.lists.proofs.Follow.{part-accepted, part-refused, follow}
 use Rattle.model.proofs.Stays.{vmpl-next}
@@ -84,8 +86,26 @@ unfolding postAct writeSends
 quiet-check j s w i op c y a g =
     rw (no-check (icrItem y) (sent-item y), and-false (eqb c 0x830), and-false (eqb c 0x83F), and-false (eqb op 3), and-false (accepted a))
 
+-- what is posted of an act that is no call is posted on its own vCPU
+quiet-other : (j : ℕ) (x : Item) (s : Part) (w : Book) (i : ℕ) (e : Act Bytes) (a : Result) (g : Ledger) → isCall e ≡ false → eqb j i ≡ false
+    → postAct j x s w i e a g ≡ g
+unfolding postAct
+quiet-other j x s w i (notice p) a g h n = rw (n, and-false (inPart x s))
+quiet-other j x s w i (call op c y) a g h n = clash (cc)
+quiet-other j x s w i (entry iF sh bl) a g h n = rw (n, and-false (accepted a), and-false (isItem x (presentedBy a)))
+quiet-other j x s w i nonDelivery a g h n = rw (n, and-false (accepted a && isItem x (g .latest)))
+quiet-other j x s w i (handBack p iF sh) a g h n = refl
+
 pub quiet : Quiet
-quiet = record { refusals = quiet-refused; reads = quiet-read; numbers = unread-number; counts = unread-counts; checks = quiet-check }
+quiet =
+    record {
+      refusals = quiet-refused;
+      reads = quiet-read;
+      numbers = unread-number;
+      counts = unread-counts;
+      checks = quiet-check;
+      others = quiet-other;
+    }
 
 -- ---- the invariant: with c pending at first, what was presented and is pending is covered by the ledger g, and what isInFlight is the latest
 module _ (j : ℕ) (x : Item) (r : InRange x) (c : ℕ) where

@@ -18,6 +18,7 @@ use Rattle.model.specs.Items.{sameItem, isItem, itemInFlight}
 use Rattle.model.specs.Doorbell.{Part, inPart}
 use Rattle.model.specs.Ipi.{icrItem, icrTarget, hits}
 use Rattle.model.specs.Events.{Act, notice, call, entry, nonDelivery, handBack, Bytes, Event}
+use Rattle.model.specs.Demand2.{isCall}
 use Rattle.lists.specs.Book.{Book, bookOf, recordAt, feed, note, partBy}
 use Rattle.lists.specs.Lists.{results}
 
@@ -96,3 +97,6 @@ pub record Quiet : Type 0 where
       → postAct j x s w i e (counted a b) g ≡ postAct j x s w i e (counted c d) g
   -- nor does any call send a machine check (7.27, 12.21)
   pub checks : (j : ℕ) (s : Part) (w : Book) (i op c y : ℕ) (a : Result) (g : Ledger) → postAct j item.MachineCheck s w i (call op c y) a g ≡ g
+  -- and an act that is no call is posted on its own vCPU alone (12.19, 12.22, 13.27)
+  pub others : (j : ℕ) (x : Item) (s : Part) (w : Book) (i : ℕ) (e : Act Bytes) (a : Result) (g : Ledger) → isCall e ≡ false → eqb j i ≡ false
+      → postAct j x s w i e a g ≡ g

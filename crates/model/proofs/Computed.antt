@@ -37,4 +37,4 @@ unfolding checks giveBack undelivered icrReservedClear icrIsFixed icrIsNmi icrLe
     written isRead isWrite isBoth kindOf pprOf ppr ldr tmr registerValue endedAt ended endedLevelAt endedLevel registration writeValue nameable
     permission requestOf serve callVerdict noticed offerHighest offer present entered emptied handed handBackResult vcpuVerdict verdict callEffect
     effect concluded step
-worked-checks = record { checks = refl }
+worked-checks = record { checks = refl; nmi = tt; machineCheck = tt }

@@ -19,13 +19,14 @@ use Rattle.vector_set.proofs.Laws.{clash}
 use Rattle.model.proofs.Stored.{needed}
 use Rattle.model.proofs.Reached.{AllSound, all-reached}
 use Rattle.model.proofs.ReadBack.{read-back}
-use Rattle.model.proofs.Kept.{keeps-level, calls-keep-level, calls-keep-pending, calls-keep-checks, calls-forget}
+use Rattle.model.proofs.Kept.{keeps-level, calls-keep-level, calls-keep-pending, calls-keep-checks}
 use Rattle.model.proofs.Kept.{keeps-inactive, keeps-others, keeps-beyond}
+use Rattle.model.proofs.Called.{calls-forget, call-permits}
 use Rattle.model.proofs.IcrBits.{reserved, set-apart, same-delivery}
 use Rattle.model.proofs.IcrWrites.{same-write, icr-reads, icr-touches}
 use Rattle.model.proofs.NoticeCounts.{notice-new, notice-sum, notice-pends, notice-levels, notice-touches}
 use Rattle.model.proofs.IpiNames.{icr-names, self-names, icr-reaches, self-reaches, self-touches}
-use Rattle.model.proofs.Presented.{checks-first, entry-pends, entry-touches, return-pends, return-touches, hand-back-keeps, hand-back-empties}
+use Rattle.model.proofs.Presented.{checks-first, entry-pends, entry-touches, idle-touches, return-pends, return-touches, hand-back-keeps, hand-back-empties}
 use Rattle.model.proofs.ChecksApart.{calls-apart}
 
 -- ---- what acceptance tells
@@ -98,4 +99,6 @@ demand2 =
       keepsOthers = keeps-others;
       handBackKeeps = hand-back-keeps;
       callsForget = calls-forget;
+      idleTouches = idle-touches;
+      callPermits = call-permits;
     }

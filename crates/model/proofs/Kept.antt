@@ -1,5 +1,5 @@
 -- What an event keeps, of every module value: PL and what is pending under a guest call, the members of PL under a request, the record of a vCPU
--- that is not active, the records of other vCPUs, what is in flight at a caller, and what stands at n and above.
+-- that is not active, the records of other vCPUs, and what stands at n and above.
 -- Assumes nothing.
 use mathlib.Core.Path.{_≡_, refl, sym, ap, _∙_, subst}
 use mathlib.Core.Bool.{Bool, true, false, cond, _&&_, _||_, or-true}
@@ -9,7 +9,6 @@ use Prim.Native.Nat.{ℕ, _<_, _≤_, _-_}
 use native.Mathlib.Omega.{arith}
 use lib.Dec.{ltb, eqb}
 use borrow.Author.Tests.{le-ltb, ltb-true, ne-eqb}
-use Rattle.model.specs.declared.InFlight.the-variants as flight
 use Rattle.model.specs.declared.Item.{Item}
 use Rattle.model.specs.declared.Item.the-variants as item
 use Rattle.model.specs.declared.Target.{Target}
@@ -19,21 +18,19 @@ use Rattle.model.specs.declared.Request.{Request}
 use Rattle.model.specs.declared.Request.the-variants as request
 use Rattle.model.specs.declared.Vcpu.{Vcpu}
 use Rattle.model.specs.declared.Module.{Module}
-use Rattle.model.specs.declared.Refusal.the-variants.{UnknownVcpu, NotActive}
 use Rattle.model.specs.State.{isActive, size, vcpuAt, withVcpu}
-use Rattle.model.specs.Codes.{accept, done}
 use Rattle.model.specs.Doorbell.{Part, isLevel, admitted}
 use Rattle.model.specs.Registers.{endedAt, ended}
 use Rattle.model.specs.Ipi.{icrType, icrVector, icrItem, icrTarget, hits, reach}
 use Rattle.model.specs.Items.{InRange, isMachineCheck, pendingIn, pending, mark}
-use Rattle.model.specs.Requests.{requestOf, forget, leaveIf, serve, callVerdict}
+use Rattle.model.specs.Requests.{requestOf, forget, leaveIf, serve}
 use Rattle.model.specs.Events.{Act, notice, call, entry, nonDelivery, handBack, at, Bytes, Event, noticed, Reply, gives}
-use Rattle.model.specs.Events.{sends, callEffect, vcpuVerdict, verdict, effect, effectOf, store, deliver, concluded, step, next}
+use Rattle.model.specs.Events.{sends, callEffect, effect, effectOf, store, deliver, concluded, next}
 use Rattle.model.specs.Causes.{isHandBack}
 use Rattle.model.specs.Demand2.{isRequest, isCall}
 use Rattle.vector_set.specs.Sets.{has, highest}
 use Rattle.vector_set.proofs.Laws.{clash, has-collect}
-use Rattle.model.proofs.Stored.{on-put, stored-at, by-reach, vcpuAt-count, vcpuAt-sent, size-put, size-count, needed, by-verdict, known-of, servedIn}
+use Rattle.model.proofs.Stored.{on-put, by-reach, vcpuAt-count, vcpuAt-sent, size-put, size-count, by-verdict, known-of, servedIn}
 use Rattle.model.proofs.ItemLaws.{pending-mark, rest-mark}
 
 -- ---- what a guest call keeps: whatever is said of the marks, P and PL, and stays true where an item becomes pending
@@ -218,54 +215,6 @@ keeps-others m e j h n =
     (λ p. ap (λ (u : Module). vcpuAt u j) (no-sending (m .vmpl) (e .vcpu) (m .registrations) (vcpuAt m (e .vcpu)) (e .act) _ h)
     ∙ rw (vcpuAt-count)
     (on-put m (e .vcpu) (effectOf m e .vcpu) j (known-of m (e .vcpu) (e .act) p .there) (λ _ t u v. t ≡ false → v ≡ u) (λ q. clash (cc)) (λ q. refl) n))
-
--- ---- after an accepted call nothing is in flight at the caller
-flight-leave : (b : Bool) (v : Vcpu) → leaveIf b v .flight ≡ v .flight
-flight-leave true v = refl
-flight-leave false v = refl
-
-flight-ended : (o : Option ℕ) (v : Vcpu) → endedAt o v .flight ≡ v .flight
-unfolding endedAt
-flight-ended none v = refl
-flight-ended (some x) v = refl
-
-flight-serve : (o : Local) (i k : ℕ) (v : Vcpu) → serve o i k v .vcpu .flight ≡ v .flight
-unfolding serve ended
-flight-serve local.Features i k v = refl
-flight-serve local.Leave i k v = flight-leave (eqb k 0) v
-flight-serve local.Release i k v = flight-leave (eqb (k - 1) 0) v
-flight-serve local.Register i k v = refl
-flight-serve (local.Allow x) i k v = refl
-flight-serve (local.Disallow x) i k v = refl
-flight-serve (local.Read r) i k v = refl
-flight-serve (local.SetTpr x) i k v = refl
-flight-serve local.Eoi i k v = flight-ended (highest (v .isr)) v
-flight-serve (local.SelfIpi x) i k v = ap (λ (u : Vcpu). u .flight) (rest-mark (item.Vector x) v)
-
-flight-delivered : (r : Reply) (i : ℕ) (m : Module) (j : ℕ) → vcpuAt (deliver r i m) j .flight ≡ vcpuAt m j .flight
-flight-delivered (gives r) i m j = refl
-flight-delivered (sends y) i m j =
-    ap (λ (u : Vcpu). u .flight) (vcpuAt-sent (icrItem y) (icrTarget y) i m j)
-    ∙ by-reach (icrItem y) (icrTarget y) i (size m) j (vcpuAt m j) (λ u. u .flight ≡ vcpuAt m j .flight)
-    (ap (λ (u : Vcpu). u .flight) (rest-mark (icrItem y) (vcpuAt m j))) refl
-
-flight-called : (r : Request) (i k : ℕ) (v : Vcpu) → callVerdict r i k (forget v) ≡ accept → callEffect r i k v .vcpu .flight ≡ flight.Nothing
-unfolding callEffect callVerdict
-flight-called (request.Local o) i k v h = flight-serve o i k (forget v)
-flight-called (request.Icr x) i k v h = refl
-flight-called (request.Refused c) i k v h = clash (cc)
-
-pub calls-forget : (m : Module) (i op c x r : ℕ) → step m (at i (call op c x)) .result ≡ done r
-    → vcpuAt (next m (at i (call op c x))) i .flight ≡ flight.Nothing
-unfolding concluded effect verdict vcpuVerdict
-calls-forget m i op c x r =
-    let e = at i (call op c x) in
-    by-verdict m e (λ o. o .result ≡ done r → vcpuAt (o .after) i .flight ≡ flight.Nothing)
-    (λ c h q. clash (cc))
-    (λ h q. flight-delivered (effectOf m e .reply) i _ i
-    ∙ ap (λ (u : Vcpu). u .flight) (stored-at m i (effectOf m e .registrations) (effectOf m e .vcpu) (known-of m i (call op c x) h .there))
-    ∙ flight-called (requestOf op c x) i (m .registrations) (vcpuAt m i)
-    (needed (isActive (vcpuAt m i .phase)) NotActive _ (needed (ltb i (size m)) UnknownVcpu _ h .1) .1))
 
 -- ---- no event changes a place at n or above
 beyond-delivered : (r : Reply) (i : ℕ) (m : Module) (j : ℕ) → size m ≤ j → vcpuAt (deliver r i m) j ≡ vcpuAt m j

@@ -9,6 +9,7 @@ pub mod Fitting
 pub mod SoundRecords
 pub mod Reached
 pub mod Kept
+pub mod Called
 pub mod IcrBits
 pub mod IcrWrites
 pub mod NoticeCounts

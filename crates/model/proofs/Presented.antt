@@ -120,6 +120,26 @@ entry-touches m i iF sh bl y j q =
     (λ _ b u w. unmarkAll w ≡ unmarkAll (cond b (withFlight (flightOf y) u) u))
     (ap (λ (z : Answer). unmarkAll (entered z (forget v))) (same-answer e) ∙ unmarked-entered y q v) refl))
 
+-- where it presents nothing
+idle-entered : (a : Answer) → presentedIn a ≡ none → (v : Vcpu) → entered a (forget v) ≡ forget v
+unfolding entered
+idle-entered nothing h v = refl
+idle-entered (presents y) h v = clash (cc)
+idle-entered (window x) h v = refl
+
+pub idle-touches : (m : Module) (i : ℕ) (iF sh bl : Bool) (a : Answer) (j : ℕ) → presentedIn a ≡ none → step m (at i (entry iF sh bl)) .result ≡ answers a
+    → vcpuAt (next m (at i (entry iF sh bl))) j ≡ cond (eqb j i) (withFlight flight.Nothing (vcpuAt m j)) (vcpuAt m j)
+unfolding concluded effect
+idle-touches m i iF sh bl a j q =
+    let v = vcpuAt m i in
+    by-verdict m (at i (entry iF sh bl))
+    (λ o. o .result ≡ answers a → vcpuAt (o .after) j ≡ cond (eqb j i) (withFlight flight.Nothing (vcpuAt m j)) (vcpuAt m j))
+    (λ c h e. clash (cc))
+    (λ h e. rw (vcpuAt-count)
+    (on-put m i (entered (offer iF sh bl v) (forget v)) j (known-of m i (entry iF sh bl) h .there)
+    (λ _ b u w. w ≡ cond b (withFlight flight.Nothing u) u)
+    (ap (λ (z : Answer). entered z (forget v)) (same-answer e) ∙ idle-entered a q v) refl))
+
 -- ---- a non-delivery
 pub return-pends : (m : Module) (i r : ℕ) (x : Item) → InRange x → step m (at i nonDelivery) .result ≡ done r
     → pending x (vcpuAt (next m (at i nonDelivery)) i) ≡ (isItem x (itemInFlight (vcpuAt m i .flight)) || pending x (vcpuAt m i))

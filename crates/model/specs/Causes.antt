@@ -79,11 +79,11 @@ badValue c x =
     || (eqb c 0x808 && ltb 255 x)
     || (eqb c 0x830 && not (icrLegal x))
 
--- a vector that call 4 takes, and bits 31:9 of its ECX clear (5.17)
+-- a vector that call 4 takes (5.17)
 abbrev pub allowable : ℕ → Bool
 allowable v = within 31 255 v || eqb v 18 || eqb v 2
 
--- the ECX of call 1 or 4 is not one that it takes (5.7, 5.17)
+-- the ECX of call 1 or 4 is not one that it takes: of call 4 also where a bit of 31:9 is set (5.7, 5.17)
 unfoldable pub badEcx : ℕ → ℕ → Bool
 badEcx op c = (eqb op 1 && ltb 2 c) || (eqb op 4 && not (eqb (c / 2 ^ 9) 0 && allowable (c % 2 ^ 8)))
 

@@ -1,11 +1,11 @@
--- Demand 2: the gate is what kernels expect (13.6 to 13.18, 13.35 to 13.63). That each event's result, module and page are those of
+-- Demand 2: the gate is what kernels expect (13.6 to 13.18, 13.35 to 13.65). That each event's result, module and page are those of
 -- `step` and `start` is said by the functions' contracts; here is what else is claimed of them.
 -- Assumes nothing.
 use mathlib.Core.Path.{_≡_}
 use mathlib.Core.Bool.{Bool, true, false, cond, not, _&&_, _||_}
 use mathlib.Core.List.{List, map}
-use mathlib.Core.Option.{some}
-use Prim.Native.Nat.{ℕ, _+_, _^_, _<_, _≤_}
+use mathlib.Core.Option.{none, some}
+use Prim.Native.Nat.{ℕ, _+_, _%_, _^_, _<_, _≤_}
 use lib.Bits.{bitOr}
 use lib.Dec.{eqb}
 use Rattle.model.specs.declared.Item.{Item}
@@ -198,3 +198,9 @@ pub record Demand2 : Type 0 where
   -- of every module value: after an accepted call nothing is in flight at the caller (13.63)
   pub callsForget : (m : Module) (i op c x r : ℕ) → step m (at i (call op c x)) .result ≡ done r
       → vcpuAt (next m (at i (call op c x))) i .flight ≡ Nothing
+  -- of every module value: after an entry that presented nothing each record is as before, but that nothing is in flight there (13.64)
+  pub idleTouches : (m : Module) (i : ℕ) (iF sh bl : Bool) (a : Answer) (j : ℕ) → presentedIn a ≡ none → step m (at i (entry iF sh bl)) .result ≡ answers a
+      → vcpuAt (next m (at i (entry iF sh bl))) j ≡ cond (eqb j i) (withFlight Nothing (vcpuAt m j)) (vcpuAt m j)
+  -- of every module value: an accepted call 4 puts its vector into A or takes it out, by bit 8, and no other (13.65)
+  pub callPermits : (m : Module) (i c x r y : ℕ) → y < 256 → step m (at i (call 4 c x)) .result ≡ done r
+      → has (vcpuAt (next m (at i (call 4 c x))) i .allowed) y ≡ cond (eqb y (c % 256)) (bitAt c 8) (has (vcpuAt m i .allowed) y)

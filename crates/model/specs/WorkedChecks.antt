@@ -1,4 +1,4 @@
--- Worked cases of the machine check (14.59 to 14.69), for what no claim says otherwise. L = 1, n = 2 and vCPU 0 unless said.
+-- Worked cases of the machine check (14.59 to 14.69, 14.71), for what no claim says otherwise. L = 1, n = 2 and vCPU 0 unless said.
 -- Assumes nothing.
 use mathlib.Core.Path.{_≡_}
 use mathlib.Core.Bool.{Bool, true, false, not, _&&_}
@@ -8,13 +8,15 @@ use lib.ListN.{set}
 use Rattle.model.specs.declared.Phase.the-variants.{Leaving}
 use Rattle.model.specs.declared.InFlight.{InFlight}
 use Rattle.model.specs.declared.InFlight.the-variants as flight
+use Rattle.model.specs.declared.Presentation.the-variants as presentation
 use Rattle.model.specs.declared.Item.{Item}
 use Rattle.model.specs.declared.Item.the-variants as item
 use Rattle.model.specs.declared.Vcpu.{Vcpu}
 use Rattle.model.specs.declared.Module.{Module}
 use Rattle.vector_set.specs.Sets.{empty, full, remove}
 use Rattle.model.specs.State.{vcpuAt, withIrr, withIsr, withNmi, withMachineCheck, withTpr, withPhase}
-use Rattle.model.specs.Items.{pending}
+use Rattle.model.specs.Codes.{presentedResult}
+use Rattle.model.specs.Items.{InRange, hasMark, pending}
 use Rattle.model.specs.Events.{notice, call, nonDelivery, handBack, at, Event, next}
 use Rattle.model.specs.Cases.{sameNumbers, gives, counts, isRefused, fresh2, having, record0, singleton}
 use Rattle.model.specs.Cases.{zeros, announcing, onPage, resultOn, every}
@@ -30,6 +32,10 @@ checkPage = set announcing 65 0x02
 
 abbrev threePage : List ℕ
 threePage = set (set announcing 64 0x41) 65 0x03
+
+-- the same with bit 14: 0x50 in bits 7:0, and the mark of 0x41
+abbrev markedPage : List ℕ
+markedPage = set (set (set announcing 64 0x50) 65 0x43) 72 0x02
 
 -- of the three items of that page the NMI, the machine check and 0x41 are pending, as said
 abbrev same : Bool → Bool → Bool
@@ -128,6 +134,7 @@ checks =
     ∷ (marked item.Nmi (next busy held) && not (marked item.MachineCheck (next busy held)))
     ∷ shows item.Nmi (next busy held) free
     ∷ shows item.MachineCheck busy free
+    ∷ shows item.MachineCheck (having (withIrr (singleton 0x41) checked)) (enters false false false)
     ∷ shows item.MachineCheck (having (withIrr (singleton 0x1F) checked)) free
     ∷ shows (item.Vector 0x1F) (next (having (withIrr (singleton 0x1F) checked)) free) free
     -- 14.64: returned and presented again; forgotten by a call
@@ -163,8 +170,19 @@ checks =
     ∷ reads 0 0x820 flying
     ∷ gives 0 (resultOn (having flying) eoi)
     ∷ sameNumbers (vcpuAt (next (having flying) eoi) 0 .isr) empty
+    -- 14.71: bit 14 with 0x50 in bits 7:0, which is cleared and not admitted
+    ∷ counts 3 0 (told record0 markedPage .result)
+    ∷ pends true true (singleton 0x41) (told record0 markedPage .after)
+    ∷ sameNumbers (told record0 markedPage .page) zeros
+    -- the items that the claims speak of, and what the functions' answers present
+    ∷ (hasMark item.Nmi && hasMark item.MachineCheck && not (hasMark (item.Vector 18)))
+    ∷ answersBy (isShown item.Nmi) (presentedResult presentation.Nmi)
+    ∷ answersBy (isShown item.MachineCheck) (presentedResult presentation.MachineCheck)
     ∷ []
 
 -- ---- all of them
 pub record WorkedChecks : Type 0 where
   pub checks : every checks ≡ true
+  -- a claim over the items in range is one over these
+  pub nmi : InRange item.Nmi
+  pub machineCheck : InRange item.MachineCheck

@@ -26,7 +26,8 @@ use Rattle.model.proofs.IcrBits.{reserved, set-apart, same-delivery}
 use Rattle.model.proofs.IcrWrites.{same-write, icr-reads, icr-touches}
 use Rattle.model.proofs.NoticeCounts.{notice-new, notice-sum, notice-pends, notice-levels, notice-touches}
 use Rattle.model.proofs.IpiNames.{icr-names, self-names, icr-reaches, self-reaches, self-touches}
-use Rattle.model.proofs.Presented.{checks-first, entry-pends, entry-touches, idle-touches, return-pends, return-touches, hand-back-keeps, hand-back-empties}
+use Rattle.model.proofs.Presented.{checks-first, entry-pends, entry-touches, idle-touches}
+use Rattle.model.proofs.Presented.{return-pends, return-touches, hand-back-keeps, hand-back-empties}
 use Rattle.model.proofs.ChecksApart.{calls-apart}
 
 -- ---- what acceptance tells

@@ -1,6 +1,6 @@
 -- Why no item is presented more often than it was pending at first, admitted, sent and returned: an item that is pending has not been presented yet.
 -- Assumes nothing.
-use mathlib.Core.Path.{_≡_, refl}
+use mathlib.Core.Path.{_≡_, refl, ap}
 use mathlib.Core.Bool.{Bool, false, cond, _&&_, and-true, and-false}
 use mathlib.Core.List.{List, [], _∷_}
 use mathlib.Core.Option.{Option, none, some}
@@ -86,14 +86,17 @@ unfolding postAct writeSends
 quiet-check j s w i op c y a g =
     rw (no-check (icrItem y) (sent-item y), and-false (eqb c 0x830), and-false (eqb c 0x83F), and-false (eqb op 3), and-false (accepted a))
 
+outside : (p q : Bool) → q ≡ false → (p && q) ≡ false
+outside p q h = rw h (and-false p)
+
 -- what is posted of an act that is no call is posted on its own vCPU
 quiet-other : (j : ℕ) (x : Item) (s : Part) (w : Book) (i : ℕ) (e : Act Bytes) (a : Result) (g : Ledger) → isCall e ≡ false → eqb j i ≡ false
     → postAct j x s w i e a g ≡ g
 unfolding postAct
-quiet-other j x s w i (notice p) a g h n = rw (n, and-false (inPart x s))
+quiet-other j x s w i (notice p) a g h n = ap (λ (b : Bool). addAdmitted b g) (outside (inPart x s) (eqb j i) n)
 quiet-other j x s w i (call op c y) a g h n = clash (cc)
 quiet-other j x s w i (entry iF sh bl) a g h n = rw (n, and-false (accepted a), and-false (isItem x (presentedBy a)))
-quiet-other j x s w i nonDelivery a g h n = rw (n, and-false (accepted a && isItem x (g .latest)))
+quiet-other j x s w i nonDelivery a g h n = ap (λ (b : Bool). addReturned b g) (outside (accepted a && isItem x (g .latest)) (eqb j i) n)
 quiet-other j x s w i (handBack p iF sh) a g h n = refl
 
 pub quiet : Quiet

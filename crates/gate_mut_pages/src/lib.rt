@@ -15,7 +15,8 @@ use vcpu_pages::notices::take;
 use vector_set_algebra::union;
 
 // A host notice (section 4; 13.33). The page after it has what was taken cleared. A word of P and of PL and the marks of the NMI and the machine
-// check are stored, and P as a whole where marked vectors are taken.
+// check are stored, and P as a whole where marked vectors are taken. The marks come from the copy, which need
+// not be read again after the page's stores.
 pub fn notice_in(m: &mut Module, vcpu: u32, page: &mut [u8]) -> Admission
     ensures { λ r. ⌜ noticedOut (record { admission = r; after = now (m .exit) })
         (now (page .exit)) ≡ step (now (m .entry)) (at vcpu (Act.notice (now (page .entry)))) ⌝ }

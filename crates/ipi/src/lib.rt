@@ -106,6 +106,7 @@ pub fn counts_of(posting: Posting, word: u32, nmi: bool, machine_check: bool) ->
 {
     let new = (posting.bits & !word != 0) as u32;
     let merged = (posting.bits & word != 0) as u32;
+    // Few notices ask for a mark, so one test comes before both.
     if !(posting.nmi | posting.machine_check) {
         return Counts { new, merged };
     }

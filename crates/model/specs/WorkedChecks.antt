@@ -22,7 +22,7 @@ use Rattle.model.specs.Cases.{sameNumbers, gives, counts, isRefused, fre
 use Rattle.model.specs.Cases.{zeros, announcing, onPage, resultOn, every}
 use Rattle.model.specs.Worked.{pageAfter, eoi, icr, reads, isShown, answersBy, enters, told, irrOf}
 
--- what is pending at vCPU 0 by its mark
+-- the item is pending at vCPU 0
 abbrev marked : Item → Module → Bool
 marked y m = pending y (vcpuAt m 0)
 
@@ -37,11 +37,12 @@ threePage = set (set announcing 64 0x41) 65 0x03
 abbrev markedPage : List ℕ
 markedPage = set (set (set announcing 64 0x50) 65 0x43) 72 0x02
 
--- of the three items of that page the NMI, the machine check and 0x41 are pending, as said
+-- equal answers
 abbrev same : Bool → Bool → Bool
 same true b = b
 same false b = not b
 
+-- whether the NMI and the machine check are pending, and which vectors are
 abbrev pends : Bool → Bool → List ℕ → Module → Bool
 pends n c s m = same n (marked item.Nmi m) && same c (marked item.MachineCheck m) && sameNumbers (irrOf m 0) s
 
@@ -53,7 +54,7 @@ checked = withMachineCheck true record0
 abbrev afterNotice : List ℕ → Module
 afterNotice a = onPage a checkPage .after
 
--- both marks, the highest vector in service, and no lower priority let through
+-- both marks, the highest vector in service, and the highest TPR
 abbrev busy : Module
 busy = having (withTpr 0xFF (withIsr (singleton 0xFF) (withNmi true checked)))
 
@@ -67,6 +68,7 @@ free = enters true false false
 abbrev shows : Item → Module → Event → Bool
 shows y m e = answersBy (isShown y) (resultOn m e)
 
+-- the machine check is in flight
 abbrev isCheck : InFlight → Bool
 isCheck flight.Nothing = false
 isCheck flight.Nmi = false

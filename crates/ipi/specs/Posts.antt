@@ -27,12 +27,12 @@ wordIn p v = withIrr (set (v .irr) (p .word) (bitOr (getD (v .irr) (p .word) 0) 
 abbrev pub markIn : Posting → Vcpu → Vcpu
 markIn p v = withNmi (v .nmi || p .nmi) v
 
-abbrev pub checkIn : Posting → Vcpu → Vcpu
-checkIn p v = withMachineCheck (v .«machine_check» || p .«machine_check») v
+abbrev pub machineCheckIn : Posting → Vcpu → Vcpu
+machineCheckIn p v = withMachineCheck (v .«machine_check» || p .«machine_check») v
 
 -- the record with what a posting adds to it
 abbrev pub posted : Posting → Vcpu → Vcpu
-posted p v = checkIn p (markIn p (wordIn p v))
+posted p v = machineCheckIn p (markIn p (wordIn p v))
 
 -- where p is an item's posting, w is the record v with that item pending (4.27, 7.17)
 abbrev pub Posted : Posting → Vcpu → Vcpu → Type 0

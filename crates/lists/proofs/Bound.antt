@@ -106,7 +106,7 @@ quiet =
       reads = quiet-read;
       numbers = unread-number;
       counts = unread-counts;
-      checks = quiet-check;
+      machineChecks = quiet-check;
       others = quiet-other;
     }
 

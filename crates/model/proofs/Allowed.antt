@@ -61,6 +61,24 @@ admits-fits a d (item.Vector v) r h = pick (admitsEdge a d v) (isLevel (admitsLe
     pick false true e f h = level-fits a d v f
     pick false false e f h = clash (cc)
 
+-- the items with a mark: admitted where work is announced, by their bit and their member
+pub nmi-admitted : (l : ℕ) (a : List ℕ) (p : Bytes) → admitted l a p .nmi ≡ (announces l p && bitOf (descriptor l p) 8 && has a 2)
+unfolding admitted admits admitsMark noPart
+nmi-admitted l a p = pick (announces l p)
+  where
+    pick : (b : Bool) → cond b (admits a (descriptor l p)) noPart .nmi ≡ (b && bitOf (descriptor l p) 8 && has a 2)
+    pick true = refl
+    pick false = refl
+
+pub machine-check-admitted : (l : ℕ) (a : List ℕ) (p : Bytes)
+    → admitted l a p .machineCheck ≡ (announces l p && bitOf (descriptor l p) 9 && has a 18)
+unfolding admitted admits admitsMark noPart
+machine-check-admitted l a p = pick (announces l p)
+  where
+    pick : (b : Bool) → cond b (admits a (descriptor l p)) noPart .machineCheck ≡ (b && bitOf (descriptor l p) 9 && has a 18)
+    pick true = refl
+    pick false = refl
+
 pub admitted-fits : (l : ℕ) (a : List ℕ) (p : Bytes) (x : Item) → InRange x → inPart x (admitted l a p) ≡ true → Fits a x
 unfolding admitted
 admitted-fits l a p x r = pick (announces l p)

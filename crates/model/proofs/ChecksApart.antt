@@ -27,7 +27,7 @@ use Rattle.model.specs.Ipi.{icrItem, icrTarget, reached, reach, mapFrom,
 use Rattle.model.specs.Requests.{requestOf, forget, leaveIf, Served, serve, callVerdict}
 use Rattle.model.specs.Events.{call, at, Event, vcpuVerdict, verdict, Reply, gives, sends, Effect, callEffect, effect, effectOf}
 use Rattle.model.specs.Events.{Out, resultFor, deliver, store, concluded, decided, step, next}
-use Rattle.model.specs.Demand2.{unchecked}
+use Rattle.model.specs.Demand2.{withoutMachineChecks}
 use Rattle.model.proofs.Kept.{sent-item}
 
 -- the record with its mark cleared
@@ -80,12 +80,12 @@ effect-apart (request.Icr x) i k v = refl
 effect-apart (request.Refused c) i k v = refl
 
 -- ---- the module
-at-apart : (m : Module) (k : ℕ) → vcpuAt (unchecked m) k ≡ U (vcpuAt m k)
-unfolding vcpuAt unchecked bare
+at-apart : (m : Module) (k : ℕ) → vcpuAt (withoutMachineChecks m) k ≡ U (vcpuAt m k)
+unfolding vcpuAt withoutMachineChecks bare
 at-apart m k = List·getD-map (withMachineCheck false) (m .vcpus) k absent
 
-size-apart : (m : Module) → size (unchecked m) ≡ size m
-unfolding size unchecked
+size-apart : (m : Module) → size (withoutMachineChecks m) ≡ size m
+unfolding size withoutMachineChecks
 size-apart m = refl
 
 map-put : (l : List Vcpu) (i : ℕ) (w : Vcpu) → set (map (withMachineCheck false) l) i (U w) ≡ map (withMachineCheck false) (set l i w)
@@ -94,8 +94,8 @@ map-put (v ∷ l) zero w = refl
 map-put (v ∷ l) (suc i) w = ap (λ s. U v ∷ s) (map-put l i w)
 
 stored-apart : (m : Module) (i k : ℕ) (w : Vcpu)
-    → withRegistrations k (withVcpu (unchecked m) i (U w)) ≡ unchecked (withRegistrations k (withVcpu m i w))
-unfolding unchecked withRegistrations withVcpu
+    → withRegistrations k (withVcpu (withoutMachineChecks m) i (U w)) ≡ withoutMachineChecks (withRegistrations k (withVcpu m i w))
+unfolding withoutMachineChecks withRegistrations withVcpu
 stored-apart m i k w = ap (λ (l : List Vcpu). record { n = m .n; vmpl = m .vmpl; registrations = k; vcpus = l }) (map-put (m .vcpus) i w)
 
 -- ---- an IPI
@@ -115,8 +115,8 @@ unfolding mapFrom
 map-apart f h k [] = refl
 map-apart f h k (v ∷ l) = ap₂ (λ (w : Vcpu) (s : List Vcpu). w ∷ s) (h k v) (map-apart f h (suc k) l)
 
-sent-apart : (x i : ℕ) (m : Module) → sent (icrItem x) (icrTarget x) i (unchecked m) ≡ unchecked (sent (icrItem x) (icrTarget x) i m)
-unfolding sent unchecked size
+sent-apart : (x i : ℕ) (m : Module) → sent (icrItem x) (icrTarget x) i (withoutMachineChecks m) ≡ withoutMachineChecks (sent (icrItem x) (icrTarget x) i m)
+unfolding sent withoutMachineChecks size
 sent-apart x i m =
     ap (λ (l : List Vcpu). record { n = m .n; vmpl = m .vmpl; registrations = m .registrations; vcpus = l })
     (map-apart (reach (icrItem x) (icrTarget x) i (size m)) (reach-apart (icrItem x) (sent-item x) (icrTarget x) i (size m)) 0 (m .vcpus))
@@ -126,17 +126,17 @@ pending-apart Nmi q v = refl
 pending-apart MachineCheck q v = clash (cc)
 pending-apart (Vector x) q v = refl
 
-bits-apart : (x i : ℕ) (m : Module) → newBits (icrItem x) (icrTarget x) i (unchecked m) ≡ newBits (icrItem x) (icrTarget x) i m
+bits-apart : (x i : ℕ) (m : Module) → newBits (icrItem x) (icrTarget x) i (withoutMachineChecks m) ≡ newBits (icrItem x) (icrTarget x) i m
 unfolding newBits
 bits-apart x i m =
     bits-ext _ _ 0 32 (λ b l. rw (size-apart m, at-apart m (0 + b), pending-apart (icrItem x) (sent-item x) (vcpuAt m (0 + b))))
 
 -- ---- the step
-result-apart : (r : Reply) (i : ℕ) (m : Module) → resultFor r i (unchecked m) ≡ resultFor r i m
+result-apart : (r : Reply) (i : ℕ) (m : Module) → resultFor r i (withoutMachineChecks m) ≡ resultFor r i m
 result-apart (gives a) i m = refl
 result-apart (sends x) i m = ap done (bits-apart x i m)
 
-delivered-apart : (r : Reply) (i : ℕ) (m : Module) → deliver r i (unchecked m) ≡ unchecked (deliver r i m)
+delivered-apart : (r : Reply) (i : ℕ) (m : Module) → deliver r i (withoutMachineChecks m) ≡ withoutMachineChecks (deliver r i m)
 delivered-apart (gives a) i m = refl
 delivered-apart (sends x) i m = sent-apart x i m
 
@@ -144,27 +144,29 @@ module _ (m : Module) (i op c x : ℕ) where
   abbrev e : Event
   e = at i (call op c x)
 
-  judged-apart : verdict (unchecked m) e ≡ verdict m e
-  unfolding verdict vcpuVerdict unchecked
+  judged-apart : verdict (withoutMachineChecks m) e ≡ verdict m e
+  unfolding verdict vcpuVerdict withoutMachineChecks
   judged-apart = rw (size-apart m, at-apart m i, verdict-apart (requestOf op c x) i (m .registrations) (forget (vcpuAt m i)))
 
-  done-apart : effectOf (unchecked m) e ≡ clearedIn (effectOf m e)
-  unfolding effect unchecked
+  done-apart : effectOf (withoutMachineChecks m) e ≡ clearedIn (effectOf m e)
+  unfolding effect withoutMachineChecks
   done-apart =
       ap (callEffect (requestOf op c x) i (m .registrations)) (at-apart m i)
       ∙ effect-apart (requestOf op c x) i (m .registrations) (vcpuAt m i)
 
-  pub calls-apart : (step (unchecked m) e .result ≡ step m e .result) × (next (unchecked m) e ≡ unchecked (next m e))
+  pub calls-apart : (step (withoutMachineChecks m) e .result ≡ step m e .result) × (next (withoutMachineChecks m) e ≡ withoutMachineChecks (next m e))
   unfolding step concluded
   calls-apart =
-      let s : step (unchecked m) e ≡ decided (verdict m e) (unchecked m) e = ap (λ (g : Verdict). decided g (unchecked m) e) judged-apart in
+      let s : step (withoutMachineChecks m) e ≡ decided (verdict m e) (withoutMachineChecks m) e =
+      ap (λ (g : Verdict). decided g (withoutMachineChecks m) e) judged-apart in
       let p = pick (verdict m e) in (ap (λ (o : Out). o .result) s ∙ p .0, ap (λ (o : Out). o .after) s ∙ p .1)
     where
-      pick : (g : Verdict) → (decided g (unchecked m) e .result ≡ decided g m e .result) × (decided g (unchecked m) e .after ≡ unchecked (decided g m e .after))
+      pick : (g : Verdict) → (decided g (withoutMachineChecks m) e .result ≡ decided g m e .result)
+          × (decided g (withoutMachineChecks m) e .after ≡ withoutMachineChecks (decided g m e .after))
       pick (refuse r) = (refl, refl)
       pick accept =
           let f = effectOf m e in (
-            ap (λ (h : Effect). resultFor (h .reply) i (unchecked m)) done-apart ∙ result-apart (f .reply) i m,
-            ap (λ (h : Effect). deliver (h .reply) i (store h i (unchecked m))) done-apart
+            ap (λ (h : Effect). resultFor (h .reply) i (withoutMachineChecks m)) done-apart ∙ result-apart (f .reply) i m,
+            ap (λ (h : Effect). deliver (h .reply) i (store h i (withoutMachineChecks m))) done-apart
                 ∙ ap (deliver (f .reply) i) (stored-apart m i (f .registrations) (f .vcpu)) ∙ delivered-apart (f .reply) i (store f i m),
           )

@@ -17,8 +17,8 @@ use Rattle.model.specs.Worked.{further, Worked}
 use Rattle.model.specs.WorkedChecks.{checks, WorkedChecks}
 use Rattle.model.specs.Ipi.{icrReservedClear, icrIsFixed, icrIsNmi, icrLegal, icrItem, icrTarget, hits, reach, mapFrom, sent, newBits}
 
-pub worked : Worked
-unfolding Starred cases further giveBack undelivered icrReservedClear icrIsFixed icrIsNmi icrLegal icrItem
+both : Worked × WorkedChecks
+unfolding Starred cases further checks giveBack undelivered icrReservedClear icrIsFixed icrIsNmi icrLegal icrItem
     icrTarget hits reach mapFrom sent newBits itemCount itemsNew itemsMerged bits has words collect empty full insert remove union difference
     highestBelow highest countBelow count isEmpty wordOf bare size vcpuAt started start stopped withVcpu withRegistrations mark unmark markAll
     unmarkAll bitOf bytesFrom mapBits
@@ -26,15 +26,10 @@ unfolding Starred cases further giveBack undelivered icrReservedClear icrIsFixed
     written isRead isWrite isBoth kindOf pprOf ppr ldr tmr registerValue endedAt ended endedLevelAt endedLevel registration writeValue nameable
     permission requestOf serve callVerdict noticed offerHighest offer present entered emptied handed handBackResult vcpuVerdict verdict callEffect
     effect concluded step
-worked = record { starred = refl; further = refl }
+both = (record { starred = refl; further = refl }, record { checks = refl; nmi = tt; machineCheck = tt })
+
+pub worked : Worked
+worked = both .0
 
 pub worked-checks : WorkedChecks
-unfolding checks giveBack undelivered icrReservedClear icrIsFixed icrIsNmi icrLegal icrItem
-    icrTarget hits reach mapFrom sent newBits itemCount itemsNew itemsMerged bits has words collect empty full insert remove union difference
-    highestBelow highest countBelow count isEmpty wordOf bare size vcpuAt started start stopped withVcpu withRegistrations mark unmark markAll
-    unmarkAll bitOf bytesFrom mapBits
-    announces descriptor noPart admitsMark admitsLevel admitsEdge admits admitted items clearsBit clears noticedPage handedBit servingBit handedBytes
-    written isRead isWrite isBoth kindOf pprOf ppr ldr tmr registerValue endedAt ended endedLevelAt endedLevel registration writeValue nameable
-    permission requestOf serve callVerdict noticed offerHighest offer present entered emptied handed handBackResult vcpuVerdict verdict callEffect
-    effect concluded step
-worked-checks = record { checks = refl; nmi = tt; machineCheck = tt }
+worked-checks = both .1

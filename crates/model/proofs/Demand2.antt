@@ -17,16 +17,17 @@ use Rattle.model.specs.Demand2.{announce, pendingPart, ReadsBack, Demand
 use Rattle.vector_set.specs.Sets.{full}
 use Rattle.vector_set.proofs.Laws.{clash}
 use Rattle.model.proofs.Stored.{needed}
+use Rattle.model.proofs.Allowed.{nmi-admitted, machine-check-admitted}
 use Rattle.model.proofs.Reached.{AllSound, all-reached}
 use Rattle.model.proofs.ReadBack.{read-back}
-use Rattle.model.proofs.Kept.{keeps-level, calls-keep-level, calls-keep-pending, calls-keep-checks}
+use Rattle.model.proofs.Kept.{keeps-level, calls-keep-level, calls-keep-pending, calls-keep-machine-checks}
 use Rattle.model.proofs.Kept.{keeps-inactive, keeps-others, keeps-beyond}
 use Rattle.model.proofs.Called.{calls-forget, call-permits}
 use Rattle.model.proofs.IcrBits.{reserved, set-apart, same-delivery}
 use Rattle.model.proofs.IcrWrites.{same-write, icr-reads, icr-touches}
 use Rattle.model.proofs.NoticeCounts.{notice-new, notice-sum, notice-pends, notice-levels, notice-touches}
 use Rattle.model.proofs.IpiNames.{icr-names, self-names, icr-reaches, self-reaches, self-touches}
-use Rattle.model.proofs.Presented.{checks-first, entry-pends, entry-touches, idle-touches}
+use Rattle.model.proofs.Presented.{machine-check-first, entry-pends, entry-touches, idle-touches}
 use Rattle.model.proofs.Presented.{return-pends, return-touches, hand-back-keeps, hand-back-empties}
 use Rattle.model.proofs.ChecksApart.{calls-apart}
 
@@ -89,17 +90,19 @@ demand2 =
       selfReaches = self-reaches;
       selfTouches = self-touches;
       keepsBeyond = keeps-beyond;
-      checksFirst = checks-first;
+      machineCheckFirst = machine-check-first;
       entryPends = entry-pends;
       entryTouches = entry-touches;
       returnPends = return-pends;
       returnTouches = return-touches;
       handBackEmpties = hand-back-empties;
-      callsKeepChecks = calls-keep-checks;
+      callsKeepMachineChecks = calls-keep-machine-checks;
       callsApart = calls-apart;
       keepsOthers = keeps-others;
       handBackKeeps = hand-back-keeps;
       callsForget = calls-forget;
       idleTouches = idle-touches;
+      nmiAdmitted = nmi-admitted;
+      machineCheckAdmitted = machine-check-admitted;
       callPermits = call-permits;
     }

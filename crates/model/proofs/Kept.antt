@@ -127,8 +127,8 @@ check-marks b item.Nmi n v h = h
 check-marks b item.MachineCheck n v h = clash (cc)
 check-marks b (item.Vector x) n v h = h
 
-pub calls-keep-checks : (m : Module) (i op c x j : ℕ) → vcpuAt (next m (at i (call op c x))) j .«machine_check» ≡ vcpuAt m j .«machine_check»
-calls-keep-checks m i op c x j = calls-keep (CheckIs (vcpuAt m j .«machine_check»)) (check-marks (vcpuAt m j .«machine_check»)) m i op c x j refl
+pub calls-keep-machine-checks : (m : Module) (i op c x j : ℕ) → vcpuAt (next m (at i (call op c x))) j .«machine_check» ≡ vcpuAt m j .«machine_check»
+calls-keep-machine-checks m i op c x j = calls-keep (CheckIs (vcpuAt m j .«machine_check»)) (check-marks (vcpuAt m j .«machine_check»)) m i op c x j refl
 
 -- ---- a request takes no vector out of PL
 -- x stays in PL from the record u to v

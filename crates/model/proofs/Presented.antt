@@ -77,10 +77,10 @@ check-offered iF sh bl v = first (v .«machine_check»)
 same-answer : {a b : Answer} → answers a ≡ answers b → a ≡ b
 same-answer e = cc
 
-pub checks-first : (m : Module) (i : ℕ) (iF sh bl : Bool) (a : Answer) → step m (at i (entry iF sh bl)) .result ≡ answers a
+pub machine-check-first : (m : Module) (i : ℕ) (iF sh bl : Bool) (a : Answer) → step m (at i (entry iF sh bl)) .result ≡ answers a
     → isItem MachineCheck (presentedIn a) ≡ pending MachineCheck (vcpuAt m i)
 unfolding concluded effect
-checks-first m i iF sh bl a =
+machine-check-first m i iF sh bl a =
     by-verdict m (at i (entry iF sh bl)) (λ o. o .result ≡ answers a → isItem MachineCheck (presentedIn a) ≡ pending MachineCheck (vcpuAt m i))
     (λ c h e. clash (cc))
     (λ h e. ap (λ (z : Answer). isItem MachineCheck (presentedIn z)) (sym (same-answer e)) ∙ check-offered iF sh bl (vcpuAt m i))

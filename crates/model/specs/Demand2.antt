@@ -1,4 +1,4 @@
--- Demand 2: the gate is what kernels expect (13.6 to 13.18, 13.35 to 13.65). That each event's result, module and page are those of
+-- Demand 2: the gate is what kernels expect (13.6 to 13.18, 13.35 to 13.66). That each event's result, module and page are those of
 -- `step` and `start` is said by the functions' contracts; here is what else is claimed of them.
 -- Assumes nothing.
 use mathlib.Core.Path.{_≡_}
@@ -16,7 +16,7 @@ use Rattle.model.specs.declared.Module.{Module}
 use Rattle.model.specs.State.{isActive, size, vcpuAt, start, withVcpu, withIrrLevel, withMachineCheck, withIcr, withFlight}
 use Rattle.model.specs.Codes.{Answer, presents, done, counted, answers, presentedIn}
 use Rattle.model.specs.Items.{InRange, hasMark, isItem, itemCount, itemInFlight, flightOf, pending, unmarkAll}
-use Rattle.model.specs.Doorbell.{mapBits, announcingBit, Part, isLevel, inPart, admitted, items}
+use Rattle.model.specs.Doorbell.{bitOf, announces, descriptor, mapBits, announcingBit, Part, isLevel, inPart, admitted, items}
 use Rattle.model.specs.Registers.{within}
 use Rattle.model.specs.Ipi.{icrLegal, icrItem, icrTarget, hits}
 use Rattle.model.specs.Events.{Act, notice, call, entry, nonDelivery, handBack, at, Bytes, Event, step, next, final}
@@ -91,8 +91,8 @@ isCall nonDelivery = false
 isCall (handBack p iF sh) = false
 
 -- a module with no machine check pending
-unfoldable pub unchecked : Module → Module
-unchecked m = record { n = m .n; vmpl = m .vmpl; registrations = m .registrations; vcpus = map (withMachineCheck false) (m .vcpus) }
+unfoldable pub withoutMachineChecks : Module → Module
+withoutMachineChecks m = record { n = m .n; vmpl = m .vmpl; registrations = m .registrations; vcpus = map (withMachineCheck false) (m .vcpus) }
 
 -- ---- the claim
 -- a request: a notice, or a guest call, which may be an IPI
@@ -163,7 +163,7 @@ pub record Demand2 : Type 0 where
   pub keepsBeyond : (m : Module) (e : Event) (j : ℕ) → size m ≤ j → vcpuAt (next m e) j ≡ vcpuAt m j
   -- of every module value: an accepted entry presents the machine check exactly where it is pending, whatever else is pending, in service or held back
   -- (13.53)
-  pub checksFirst : (m : Module) (i : ℕ) (iF sh bl : Bool) (a : Answer) → step m (at i (entry iF sh bl)) .result ≡ answers a
+  pub machineCheckFirst : (m : Module) (i : ℕ) (iF sh bl : Bool) (a : Answer) → step m (at i (entry iF sh bl)) .result ≡ answers a
       → isItem MachineCheck (presentedIn a) ≡ pending MachineCheck (vcpuAt m i)
   -- of every module value: after an accepted entry what it presented is pending there no more, and of every other item nothing changed (13.54)
   pub entryPends : (m : Module) (i : ℕ) (iF sh bl : Bool) (a : Answer) (x : Item) → InRange x → step m (at i (entry iF sh bl)) .result ≡ answers a
@@ -183,11 +183,11 @@ pub record Demand2 : Type 0 where
   pub handBackEmpties : (m : Module) (i r : ℕ) (p : Bytes) (iF sh : Bool) (x : Item) → InRange x → step m (at i (handBack p iF sh)) .result ≡ done r
       → pending x (vcpuAt (next m (at i (handBack p iF sh))) i) ≡ false
   -- of every module value: a guest call, an IPI among them, changes the mark of no machine check (13.59)
-  pub callsKeepChecks : (m : Module) (i op c x j : ℕ) → vcpuAt (next m (at i (call op c x))) j .«machine_check» ≡ vcpuAt m j .«machine_check»
+  pub callsKeepMachineChecks : (m : Module) (i op c x j : ℕ) → vcpuAt (next m (at i (call op c x))) j .«machine_check» ≡ vcpuAt m j .«machine_check»
   -- nor does it read one: with all of them cleared it has the same result, and it leaves the same module with all of them cleared (13.60)
   pub callsApart : (m : Module) (i op c x : ℕ)
-      → (step (unchecked m) (at i (call op c x)) .result ≡ step m (at i (call op c x)) .result)
-      × (next (unchecked m) (at i (call op c x)) ≡ unchecked (next m (at i (call op c x))))
+      → (step (withoutMachineChecks m) (at i (call op c x)) .result ≡ step m (at i (call op c x)) .result)
+      × (next (withoutMachineChecks m) (at i (call op c x)) ≡ withoutMachineChecks (next m (at i (call op c x))))
   -- of every module value: an event that is no call leaves the record of every other vCPU as it is (13.61)
   pub keepsOthers : (m : Module) (e : Event) (j : ℕ) → isCall (e .act) ≡ false → eqb j (e .vcpu) ≡ false → vcpuAt (next m e) j ≡ vcpuAt m j
   -- of every module value: a hand-back leaves TPR, ICR and what is in flight, on every vCPU (13.62)
@@ -201,6 +201,9 @@ pub record Demand2 : Type 0 where
   -- of every module value: after an entry that presented nothing each record is as before, but that nothing is in flight there (13.64)
   pub idleTouches : (m : Module) (i : ℕ) (iF sh bl : Bool) (a : Answer) (j : ℕ) → presentedIn a ≡ none → step m (at i (entry iF sh bl)) .result ≡ answers a
       → vcpuAt (next m (at i (entry iF sh bl))) j ≡ cond (eqb j i) (withFlight Nothing (vcpuAt m j)) (vcpuAt m j)
+  -- of every set and page: the NMI and the machine check are admitted by an announcement, their own bit and their own member, and by nothing else (13.66)
+  pub nmiAdmitted : (l : ℕ) (a : List ℕ) (p : Bytes) → admitted l a p .nmi ≡ (announces l p && bitOf (descriptor l p) 8 && has a 2)
+  pub machineCheckAdmitted : (l : ℕ) (a : List ℕ) (p : Bytes) → admitted l a p .machineCheck ≡ (announces l p && bitOf (descriptor l p) 9 && has a 18)
   -- of every module value: an accepted call 4 puts its vector into A or takes it out, by bit 8, and no other (13.65)
   pub callPermits : (m : Module) (i c x r y : ℕ) → y < 256 → step m (at i (call 4 c x)) .result ≡ done r
       → has (vcpuAt (next m (at i (call 4 c x))) i .allowed) y ≡ cond (eqb y (c % 256)) (bitAt c 8) (has (vcpuAt m i .allowed) y)

@@ -13,7 +13,8 @@ pub mod registers;
 pub fn ppr(tpr: u8, isr: [u32; 8]) -> u8
     ensures { λ r. ⌜ r ≡ pprOf tpr (Option·getD (highest isr) 0) ⌝ }
 {
-    let Found::Vector(s) = vector_set_search::highest_of(isr) else {
+    let found = vector_set_search::highest_of(isr).found;
+    let Found::Vector(s) = found else {
         return tpr;
     };
     if s / 16 <= tpr / 16 {

@@ -34,7 +34,8 @@ fn write_set(d: &mut [u8], s: [u32; 8])
 fn highest_or_0(s: [u32; 8]) -> u8
     ensures { λ r. ⌜ r ≡ Option·getD (highest s) 0 ⌝ }
 {
-    match vector_set_search::highest_of(s) {
+    let found = vector_set_search::highest_of(s).found;
+    match found {
         Found::Vector(v) => v,
         Found::Nothing => 0,
     }

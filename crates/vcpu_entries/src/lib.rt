@@ -36,7 +36,8 @@ fn offer_vector(v: Vcpu, ready: bool) -> Presentation
 {
     let irr = v.irr;
     let isr = v.isr;
-    let Found::Vector(vector) = vector_set_search::highest_of(irr) else {
+    let found = vector_set_search::highest_of(irr).found;
+    let Found::Vector(vector) = found else {
         return Presentation::Nothing;
     };
     let priority = apic::ppr(v.tpr, isr);

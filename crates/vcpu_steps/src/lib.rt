@@ -24,7 +24,8 @@ pub fn end_vcpu(v: Vcpu) -> Ended
 {
     let isr = v.isr;
     let isr_level = v.isr_level;
-    let Found::Vector(x) = vector_set_search::highest_of(isr) else {
+    let found = vector_set_search::highest_of(isr).found;
+    let Found::Vector(x) = found else {
         return Ended { value: 0, vcpu: v };
     };
     let service = vector_set::remove(isr, x);

@@ -158,6 +158,16 @@ below-none s (suc n) e = go (has s n) refl e (λ q. below-none s n q)
     go true p q ih = clash (cc)
     go false p q ih = step (λ (v : ℕ). has s v ≡ false) n p (ih q)
 
+below-above : (s : List ℕ) (n v : ℕ) → highestBelow s n ≡ some v → (w : ℕ) → w < n → v < w → has s w ≡ false
+unfolding highestBelow
+below-above s zero v e = λ w l g. absurd (not-suc-le-zero l)
+below-above s (suc n) v e = go (has s n) refl e (λ q. below-above s n v q)
+  where
+    go : (b : Bool) → has s n ≡ b → cond b (some n) (highestBelow s n) ≡ some v → (highestBelow s n ≡ some v → (w : ℕ) → w < n → v < w → has s w ≡ false)
+        → (w : ℕ) → w < suc n → v < w → has s w ≡ false
+    go true p q ih = λ w l g. let d : n ≡ v = cc in let z : ⊥ = omega arith in absurd z
+    go false p q ih = step (λ (w : ℕ). v < w → has s w ≡ false) n (λ g. p) (ih q)
+
 below-is : (s : List ℕ) (n v : ℕ) → v < n → has s v ≡ true → ((w : ℕ) → w < n → v < w → has s w ≡ false) → highestBelow s n ≡ some v
 unfolding highestBelow
 below-is s zero v l p h = absurd (not-suc-le-zero l)
@@ -179,6 +189,11 @@ below-no s (suc n) h = let t : has s n ≡ false = h n (omega arith) in rw t (be
 pub highest-has : (s : List ℕ) (v : ℕ) → highest s ≡ some v → (has s v ≡ true) × (v < 256)
 unfolding highest
 highest-has s v e = below-has s 256 v e
+
+-- no member is above the highest
+pub highest-above : (s : List ℕ) (v : ℕ) → highest s ≡ some v → (w : ℕ) → w < 256 → v < w → has s w ≡ false
+unfolding highest
+highest-above s v e = below-above s 256 v e
 
 pub highest-none : (s : List ℕ) → highest s ≡ none → (v : ℕ) → v < 256 → has s v ≡ false
 unfolding highest

@@ -3,21 +3,36 @@ ghost use mathlib.Core.Path.{_≡_};
 ghost use Prim.Native.Nat.{_+_};
 ghost use lib.Count.{ones};
 ghost use Rattle.vector_set.specs.Sets.{highest, vectorOf, count, isEmpty};
+ghost use Rattle.vector_set_search.specs.Search.{wordsRead};
 use vector_set::Found;
 
-pub fn highest_of(s: [u32; 8]) -> Found
-    ensures { λ r. ⌜ vectorOf r ≡ highest s ⌝ }
+// The highest member of a set, and how many of its words were read to find it.
+pub struct Search {
+    pub found: Found,
+    pub words_read: u32,
+}
+
+// Word by word, the highest first, up to the first that has a member (2.17).
+pub fn highest_of(s: [u32; 8]) -> Search
+    ensures { λ r. ⌜ (vectorOf (r .found) ≡ highest s) × (r .«words_read» ≡ wordsRead s) ⌝ }
 {
-    let mut k: usize = 8;
-    while 0 < k {
-        k -= 1;
-        let w = s[k];
+    let mut read: u32 = 0;
+    while read < 8 {
+        let k = 7 - read;
+        let w = s[k as usize];
         if w != 0 {
             let bit = 31 - u32::leading_zeros(w);
-            return Found::Vector((32 * (k as u32) + bit) as u8);
+            return Search {
+                found: Found::Vector((32 * k + bit) as u8),
+                words_read: read + 1,
+            };
         }
+        read += 1;
     }
-    Found::Nothing
+    Search {
+        found: Found::Nothing,
+        words_read: read,
+    }
 }
 
 // The members in two words that stand side by side: one population count for both, since a machine without one takes a dozen instructions for it.
@@ -39,7 +54,8 @@ pub fn count_of(s: [u32; 8]) -> u32
 pub fn is_empty(s: [u32; 8]) -> bool
     ensures { λ r. ⌜ r ≡ isEmpty s ⌝ }
 {
-    match highest_of(s) {
+    let found = highest_of(s).found;
+    match found {
         Found::Vector(_) => false,
         Found::Nothing => true,
     }

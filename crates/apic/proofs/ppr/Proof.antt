@@ -11,21 +11,21 @@ returns : tie.Need-returns
 unfolding pprOf
 returns c =
     let t = c .before .before .before .args .tpr in
-    rw (← c .before .before .highest-of .ensures, c .enum-told .given .1, le-leb 0 (t / 16) (omega arith))
+    rw (← c .before .before .highest-of .ensures .0, c .enum-told .given .1, le-leb 0 (t / 16) (omega arith))
 
 returns-2 : tie.Need-returns-2
 unfolding pprOf
 returns-2 c =
     let b = c .before .before in
     let t = b .before .before .before .args .tpr in
-    rw (← b .before .before .highest-of .ensures, b .s .given .1, le-leb _ (t / 16) (c .if1 .taken))
+    rw (← b .before .before .highest-of .ensures .0, b .found .given .1, le-leb _ (t / 16) (c .if1 .taken))
 
 returns-3 : tie.Need-returns-3
 unfolding pprOf
 returns-3 c =
     let b = c .before .before in
     let t = b .before .before .before .args .tpr in
-    rw (← b .before .before .highest-of .ensures, b .s .given .1, lt-leb _ (t / 16) (c .if1 .left))
+    rw (← b .before .before .highest-of .ensures .0, b .found .given .1, lt-leb _ (t / 16) (c .if1 .left))
 
 pub ppr-spec : {M : Type 1} → statement M
 ppr-spec =

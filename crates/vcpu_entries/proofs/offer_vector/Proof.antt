@@ -25,30 +25,30 @@ unfolding offerHighest
 at-some t s b p q x o d e h r = rw (← d, ← e, h, r)
 
 returns : tie.Need-returns
-returns c = at-none _ _ _ (ap vectorOf (sym (c .enum-told .given .1)) ∙ c .before .before .highest-of .ensures)
+returns c = at-none _ _ _ (ap vectorOf (sym (c .enum-told .given .1)) ∙ c .before .before .highest-of .ensures .0)
 
 returns-2 : tie.Need-returns-2
 unfolding ppr
 returns-2 c =
     let d = c .before .before .before in
-    at-some true _ _ _ _ (d .vector .given .0 .0) _ (c .before .ppr .ensures)
-    (ap vectorOf (sym (d .vector .given .1)) ∙ d .before .before .highest-of .ensures) (le-leb _ _ (c .if1 .taken)) refl
+    at-some true _ _ _ _ (d .found .given .0 .0) _ (c .before .ppr .ensures)
+    (ap vectorOf (sym (d .found .given .1)) ∙ d .before .before .highest-of .ensures .0) (le-leb _ _ (c .if1 .taken)) refl
 
 returns-3 : tie.Need-returns-3
 unfolding ppr
 returns-3 c =
     let e = c .before in
     let d = e .before .before .before in
-    at-some false true _ _ _ (d .vector .given .0 .0) _ (e .before .ppr .ensures)
-    (ap vectorOf (sym (d .vector .given .1)) ∙ d .before .before .highest-of .ensures) (lt-leb _ _ (e .if1 .left)) (c .if2 .taken)
+    at-some false true _ _ _ (d .found .given .0 .0) _ (e .before .ppr .ensures)
+    (ap vectorOf (sym (d .found .given .1)) ∙ d .before .before .highest-of .ensures .0) (lt-leb _ _ (e .if1 .left)) (c .if2 .taken)
 
 returns-4 : tie.Need-returns-4
 unfolding ppr
 returns-4 c =
     let e = c .before in
     let d = e .before .before .before in
-    at-some false false _ _ _ (d .vector .given .0 .0) _ (e .before .ppr .ensures)
-    (ap vectorOf (sym (d .vector .given .1)) ∙ d .before .before .highest-of .ensures) (lt-leb _ _ (e .if1 .left)) (c .if2 .left)
+    at-some false false _ _ _ (d .found .given .0 .0) _ (e .before .ppr .ensures)
+    (ap vectorOf (sym (d .found .given .1)) ∙ d .before .before .highest-of .ensures .0) (lt-leb _ _ (e .if1 .left)) (c .if2 .left)
 
 pub offer-vector-spec : {M : Type 1} → statement M
 offer-vector-spec =

@@ -7,20 +7,20 @@ use Rattle.vcpu_steps.proofs.end_vcpu.Statement.{statement}
 use Rattle.vcpu_steps.proofs.end_vcpu.Tie as tie
 
 returns : tie.Need-returns
-returns c = ends-none _ _ (c .enum-told .given .1) (c .before .before .highest-of .ensures)
+returns c = ends-none _ _ (c .enum-told .given .1) (c .before .before .highest-of .ensures .0)
 
 returns-2 : tie.Need-returns-2
 returns-2 c =
     let f = c .before .before .before .before .before in
     let d = c .before .before in
-    ends-some _ _ _ _ true _ (f .x .given .1) (f .before .before .highest-of .ensures)
+    ends-some _ _ _ _ true _ (f .found .given .1) (f .before .before .highest-of .ensures .0)
     (d .before .remove .ensures) (d .remove2 .ensures) (sym (c .if1 .taken) ∙ c .before .contains .ensures)
 
 returns-3 : tie.Need-returns-3
 returns-3 c =
     let f = c .before .before .before .before .before in
     let d = c .before .before in
-    ends-some _ _ _ _ false _ (f .x .given .1) (f .before .before .highest-of .ensures)
+    ends-some _ _ _ _ false _ (f .found .given .1) (f .before .before .highest-of .ensures .0)
     (d .before .remove .ensures) (d .remove2 .ensures) (sym (c .if1 .left) ∙ c .before .contains .ensures)
 
 pub end-vcpu-spec : {M : Type 1} → statement M

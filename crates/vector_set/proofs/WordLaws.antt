@@ -190,6 +190,12 @@ highest-word s k ws l ne above =
             ap (has s) e ∙ has-word s k (w - 32 * k) (omega arith) ∙ bit-above (suc j) (getD s k 0) (w - 32 * k) h (omega arith)
 
 -- a word that is 0 has no member
+pub no-member : (s : List ℕ) (v : ℕ) → getD s (v / 32) 0 ≡ 0 → has s v ≡ false
+no-member s v z =
+    let e : v ≡ 32 * (v / 32) + v % 32 = omega arith in
+    ap (has s) e ∙ has-word s (v / 32) (v % 32) (omega arith) ∙ ap (λ (x : ℕ). bitAt x (v % 32)) z ∙ bit-zero (v % 32)
+
+-- nor have that word and those above it, where these have none
 pub zero-word : (s : List ℕ) (k : ℕ) → getD s k 0 ≡ 0 → ((w : ℕ) → w < 256 → 32 * suc k ≤ w → has s w ≡ false)
     → (w : ℕ) → w < 256 → 32 * k ≤ w → has s w ≡ false
 zero-word s k z above w lw g = go (ltb w (32 * suc k)) refl
@@ -198,8 +204,8 @@ zero-word s k z above w lw g = go (ltb w (32 * suc k)) refl
     go false p = above w lw (ltb-false w (32 * suc k) p)
     go true p =
         let m : w < 32 * suc k = ltb-true w (32 * suc k) p in
-        let e : w ≡ 32 * k + (w - 32 * k) = omega arith in
-        ap (has s) e ∙ has-word s k (w - 32 * k) (omega arith) ∙ ap (λ (x : ℕ). bitAt x (w - 32 * k)) z ∙ bit-zero (w - 32 * k)
+        let d : w / 32 ≡ k = omega arith in
+        no-member s w (ap (λ (j : ℕ). getD s j 0) d ∙ z)
 
 -- ---- the number of members by words
 ones-digit : (y : ℕ) → y < 2 → ones y ≡ y

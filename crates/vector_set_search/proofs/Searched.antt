@@ -4,18 +4,22 @@ use mathlib.Core.Path.{_≡_, refl, sym, ap, _∙_}
 use mathlib.Core.Bool.{Bool, true, false}
 use mathlib.Core.List.{List}
 use mathlib.Core.Option.{Option, none, some}
-use Prim.Native.Nat.{ℕ, _+_, _/_, _<_, _≤_}
+use Prim.Native.Nat.{ℕ, _+_, _*_, _/_, _<_, _≤_}
 use native.Mathlib.Omega.{arith}
 use lib.Dec.{eqb, ltb}
+use lib.ListN.{getD}
 use borrow.Author.Tests.{ltb-true, ltb-false, ne-eqb}
 use Rattle.vector_set.specs.Sets.{has, empty, insert, highest, highestBelow, Words}
-use Rattle.vector_set.proofs.Laws.{words-empty, words-insert, has-empty, has-insert, highest-has, highest-above, highest-none, highest-is, highest-no, clash}
-use Rattle.vector_set_search.specs.Search.{wordsTo, wordsRead, IsRead, NoneAbove, SameTop, Searching, WorkedSearch}
+use Rattle.vector_set.proofs.BitLaws.{number-ext, bit-zero}
+use Rattle.vector_set.proofs.Laws.{words-empty, words-insert, has-word, has-empty, has-insert, clash}
+use Rattle.vector_set.proofs.Laws.{highest-has, highest-above, highest-none, highest-is, highest-no}
+use Rattle.vector_set.proofs.WordLaws.{no-member}
+use Rattle.vector_set_search.specs.Search.{wordsDownTo, wordsRead, InTop, ZeroAbove, SameTop, SearchClaims, WorkedSearch}
 
 -- ---- by the answer
-pub reads : (s : List ℕ) (o : Option ℕ) → highest s ≡ o → wordsRead s ≡ wordsTo o
+pub reads : (s : List ℕ) (o : Option ℕ) → highest s ≡ o → wordsRead s ≡ wordsDownTo o
 unfolding wordsRead
-reads s o e = ap wordsTo e
+reads s o e = ap wordsDownTo e
 
 at-most-eight : (s : List ℕ) → wordsRead s ≤ 8
 at-most-eight s = go (highest s) refl
@@ -24,39 +28,52 @@ at-most-eight s = go (highest s) refl
     go none e = omega (arith, reads s none e)
     go (some v) e = omega (arith, reads s (some v) e)
 
-reads-on : (s : List ℕ) (k : ℕ) → k < 8 → NoneAbove s k → IsRead s k
-reads-on s k l h = go (highest s) refl
+-- ---- a word without members is 0
+is-zero : (s : List ℕ) (k : ℕ) → Words s → k < 8 → ((v : ℕ) → v < 256 → v / 32 ≡ k → has s v ≡ false) → getD s k 0 ≡ 0
+is-zero s k w l h =
+    number-ext 32 (getD s k 0) 0 (w .small k l) (omega arith)
+    (λ b r. sym (has-word s k b r) ∙ h (32 * k + b) (omega arith) (omega arith) ∙ sym (bit-zero b))
+
+zero-above : (s : List ℕ) (k : ℕ) → Words s → ((v : ℕ) → v < 256 → k < v / 32 → has s v ≡ false) → ZeroAbove s k
+zero-above s k w h j g l = is-zero s j w l (λ v m d. h v m (omega arith))
+
+-- ---- which words are read
+read-if-zero-above : (s : List ℕ) (k : ℕ) → k < 8 → ZeroAbove s k → InTop (wordsRead s) k
+read-if-zero-above s k l h = go (highest s) refl
   where
-    go : (o : Option ℕ) → highest s ≡ o → IsRead s k
+    go : (o : Option ℕ) → highest s ≡ o → InTop (wordsRead s) k
     go none e = omega (arith, reads s none e)
     go (some v) e = by-word (ltb k (v / 32)) refl
       where
-        by-word : (b : Bool) → ltb k (v / 32) ≡ b → IsRead s k
+        m : (has s v ≡ true) × (v < 256)
+        m = highest-has s v e
+
+        by-word : (b : Bool) → ltb k (v / 32) ≡ b → InTop (wordsRead s) k
         by-word true p =
-            let m : has s v ≡ true = highest-has s v e .0 in
-            let n : has s v ≡ false = h v (highest-has s v e .1) (ltb-true k (v / 32) p) in
+            let y : has s v ≡ true = m .0 in
+            let i : v < 256 = m .1 in
+            let n : has s v ≡ false = no-member s v (h (v / 32) (ltb-true k (v / 32) p) (omega arith)) in
             clash (cc)
         by-word false p = let g : v / 32 ≤ k = ltb-false k (v / 32) p in omega (arith, reads s (some v) e)
 
-reads-no-further : (s : List ℕ) (k : ℕ) → k < 8 → IsRead s k → NoneAbove s k
-reads-no-further s k l r = go (highest s) refl
+zero-above-if-read : (s : List ℕ) (k : ℕ) → Words s → k < 8 → InTop (wordsRead s) k → ZeroAbove s k
+zero-above-if-read s k w l r = zero-above s k w (go (highest s) refl)
   where
-    go : (o : Option ℕ) → highest s ≡ o → NoneAbove s k
-    go none e = λ w m g. highest-none s e w m
-    go (some v) e = λ w m g. highest-above s v e w m (omega (arith, reads s (some v) e))
+    go : (o : Option ℕ) → highest s ≡ o → (v : ℕ) → v < 256 → k < v / 32 → has s v ≡ false
+    go none e = λ v m g. highest-none s e v m
+    go (some u) e = λ v m g. highest-above s u e v m (omega (arith, reads s (some u) e))
 
--- the top word is read, and no other where it has a member
-one-at-the-top : (s : List ℕ) (v : ℕ) → v < 256 → v / 32 ≡ 7 → has s v ≡ true → wordsRead s ≡ 1
-one-at-the-top s v l d h = go (ltb 1 (wordsRead s)) refl
+-- the top word is read, and no other where it is not 0
+top-word-alone : (s : List ℕ) → Words s → (getD s 7 0 ≡ 0 → ⊥) → wordsRead s ≡ 1
+top-word-alone s w h = go (ltb 1 (wordsRead s)) refl
   where
-    first : IsRead s 7
-    first = reads-on s 7 (omega arith) (λ w m g. let z : ⊥ = omega arith in absurd z)
+    first : InTop (wordsRead s) 7
+    first = read-if-zero-above s 7 (omega arith) (λ j g l. let z : ⊥ = omega arith in absurd z)
 
     go : (b : Bool) → ltb 1 (wordsRead s) ≡ b → wordsRead s ≡ 1
     go true p =
         let two : 1 < wordsRead s = ltb-true 1 (wordsRead s) p in
-        let n : has s v ≡ false = reads-no-further s 6 (omega arith) (omega arith) v l (omega arith) in
-        clash (cc)
+        absurd (h (zero-above-if-read s 6 w (omega arith) (omega arith) 7 (omega arith) (omega arith)))
     go false p = let most : wordsRead s ≤ 1 = ltb-false 1 (wordsRead s) p in let r : 8 ≤ 7 + wordsRead s = first in omega arith
 
 -- ---- two sets with the same topmost words
@@ -70,12 +87,12 @@ same-answer s t h = go (highest s) refl
         highest-is t v (m .1) (h v (m .1) (omega (arith, reads s (some v) e)) ∙ m .0)
         (λ w l g. h w l (omega (arith, reads s (some v) e)) ∙ highest-above s v e w l g)
 
-enough : (s t : List ℕ) → SameTop (wordsRead s) s t → (highest t ≡ highest s) × (wordsRead t ≡ wordsRead s)
-enough s t h = let e = same-answer s t h in (e, reads t _ e ∙ sym (reads s _ refl))
+suffice : (s t : List ℕ) → SameTop (wordsRead s) s t → (highest t ≡ highest s) × (wordsRead t ≡ wordsRead s)
+suffice s t h = let e = same-answer s t h in (e, reads t _ e ∙ sym (reads s _ refl))
 
 -- the other set is {0} where s is empty, and empty where s has a member
-no-fewer : (s : List ℕ) (m : ℕ) → m < wordsRead s → (t : List ℕ) × Words t × SameTop m s t × (highest t ≡ highest s → ⊥)
-no-fewer s m l = go (highest s) refl
+fewer-do-not : (s : List ℕ) (m : ℕ) → m < wordsRead s → (t : List ℕ) × Words t × SameTop m s t × (highest t ≡ highest s → ⊥)
+fewer-do-not s m l = go (highest s) refl
   where
     go : (o : Option ℕ) → highest s ≡ o → (t : List ℕ) × Words t × SameTop m s t × (highest t ≡ highest s → ⊥)
     go none e = (insert 0 empty, words-insert 0 empty, same, other)
@@ -104,17 +121,17 @@ no-fewer s m l = go (highest s) refl
             clash (cc)
 
 -- ---- the claims
-pub searching : Searching
-searching =
+pub search-claims : SearchClaims
+search-claims =
     record {
       isHighest = λ s v e. (highest-has s v e .1, highest-has s v e .0, highest-above s v e);
       isNothing = highest-none;
       atMostEight = at-most-eight;
-      oneAtTheTop = one-at-the-top;
-      readsOn = reads-on;
-      readsNoFurther = reads-no-further;
-      enough = enough;
-      noFewer = no-fewer;
+      topWordAlone = top-word-alone;
+      readIfZeroAbove = read-if-zero-above;
+      zeroAboveIfRead = zero-above-if-read;
+      suffice = suffice;
+      fewerDoNot = fewer-do-not;
     }
 
 pub worked-search : WorkedSearch

@@ -7,13 +7,13 @@ ghost use Rattle.vector_set_search.specs.Search.{wordsRead};
 use vector_set::Found;
 
 // The highest member of a set, and how many of its words were read to find it.
-pub struct Search {
+pub struct SearchResult {
     pub found: Found,
     pub words_read: u32,
 }
 
 // Word by word, the highest first, up to the first that has a member (2.17).
-pub fn highest_of(s: [u32; 8]) -> Search
+pub fn highest_of(s: [u32; 8]) -> SearchResult
     ensures { λ r. ⌜ (vectorOf (r .found) ≡ highest s) × (r .«words_read» ≡ wordsRead s) ⌝ }
 {
     let mut read: u32 = 0;
@@ -22,14 +22,14 @@ pub fn highest_of(s: [u32; 8]) -> Search
         let w = s[k as usize];
         if w != 0 {
             let bit = 31 - u32::leading_zeros(w);
-            return Search {
+            return SearchResult {
                 found: Found::Vector((32 * k + bit) as u8),
                 words_read: read + 1,
             };
         }
         read += 1;
     }
-    Search {
+    SearchResult {
         found: Found::Nothing,
         words_read: read,
     }

@@ -124,14 +124,15 @@ fewer-do-not s m l = go (highest s) refl
 pub search-claims : SearchClaims
 search-claims =
     record {
+      memberByBit = λ s k b i l. has-word s k b l;
       isHighest = λ s v e. (highest-has s v e .1, highest-has s v e .0, highest-above s v e);
-      isNothing = highest-none;
+      noneIsEmpty = highest-none;
       atMostEight = at-most-eight;
       topWordAlone = top-word-alone;
       readIfZeroAbove = read-if-zero-above;
       zeroAboveIfRead = zero-above-if-read;
-      suffice = suffice;
-      fewerDoNot = fewer-do-not;
+      wordsReadSuffice = suffice;
+      fewerDoNotSuffice = fewer-do-not;
     }
 
 pub worked-search : WorkedSearch

@@ -1,12 +1,13 @@
--- The search of a set for its highest member (2.17): how many words it reads, what is claimed of answer and number (13.67 to 13.69),
+-- A search for a set's highest member (2.17): how many words it reads, what is claimed of answer and number (13.67 to 13.69),
 -- worked cases (14.72). Word k of a set has the vectors 32 k to 32 k + 31; word 7 is the top one.
 -- Assumes nothing.
 use mathlib.Core.Path.{_≡_}
 use mathlib.Core.Bool.{true, false}
 use mathlib.Core.List.{List, [], _∷_, map}
 use mathlib.Core.Option.{Option, none, some}
-use Prim.Native.Nat.{ℕ, _+_, _-_, _/_, _<_, _≤_}
+use Prim.Native.Nat.{ℕ, _+_, _-_, _*_, _/_, _<_, _≤_}
 use lib.ListN.{getD}
+use Rattle.vector_set.specs.Bits.{bitAt}
 use Rattle.vector_set.specs.Sets.{has, highest, Words}
 
 -- the words from word 7 down to that of the answer, which counts too; without an answer all eight
@@ -32,10 +33,12 @@ abbrev pub SameTop : ℕ → List ℕ → List ℕ → Type 0
 SameTop m s t = (v : ℕ) → v < 256 → InTop m (v / 32) → has t v ≡ has s v
 
 pub record SearchClaims : Type 0 where
+  -- vector 32 k + b is a member exactly if bit b of word k is set (2.17)
+  pub memberByBit : (s : List ℕ) (k b : ℕ) → k < 8 → b < 32 → has s (32 * k + b) ≡ bitAt (getD s k 0) b
   -- an answer is a member, and no member is above it (13.67)
   pub isHighest : (s : List ℕ) (v : ℕ) → highest s ≡ some v → (v < 256) × (has s v ≡ true) × ((w : ℕ) → w < 256 → v < w → has s w ≡ false)
   -- without an answer there is no member (13.67)
-  pub isNothing : (s : List ℕ) → highest s ≡ none → (w : ℕ) → w < 256 → has s w ≡ false
+  pub noneIsEmpty : (s : List ℕ) → highest s ≡ none → (w : ℕ) → w < 256 → has s w ≡ false
   -- at most eight words are read (13.68)
   pub atMostEight : (s : List ℕ) → wordsRead s ≤ 8
   -- exactly one, where word 7 is not 0 (13.68)
@@ -44,9 +47,9 @@ pub record SearchClaims : Type 0 where
   pub readIfZeroAbove : (s : List ℕ) (k : ℕ) → k < 8 → ZeroAbove s k → InTop (wordsRead s) k
   pub zeroAboveIfRead : (s : List ℕ) (k : ℕ) → Words s → k < 8 → InTop (wordsRead s) k → ZeroAbove s k
   -- the words read determine answer and number: what the others hold changes neither (13.69)
-  pub suffice : (s t : List ℕ) → SameTop (wordsRead s) s t → (highest t ≡ highest s) × (wordsRead t ≡ wordsRead s)
+  pub wordsReadSuffice : (s t : List ℕ) → SameTop (wordsRead s) s t → (highest t ≡ highest s) × (wordsRead t ≡ wordsRead s)
   -- fewer of the topmost words do not determine the answer: some set has the same members there, and another answer (13.69)
-  pub fewerDoNot : (s : List ℕ) (m : ℕ) → m < wordsRead s → (t : List ℕ) × Words t × SameTop m s t × (highest t ≡ highest s → ⊥)
+  pub fewerDoNotSuffice : (s : List ℕ) (m : ℕ) → m < wordsRead s → (t : List ℕ) × Words t × SameTop m s t × (highest t ≡ highest s → ⊥)
 
 -- ---- worked cases
 -- no member; 0; 31; 32; 0x62; 0x80; 0xAD; 0xDF; 0xE0; 31, 0x41 and 0x5F; all

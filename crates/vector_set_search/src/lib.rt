@@ -6,7 +6,7 @@ ghost use Rattle.vector_set.specs.Sets.{highest, vectorOf, count, isEmpty};
 ghost use Rattle.vector_set_search.specs.Search.{wordsRead};
 use vector_set::Found;
 
-// The highest member of a set, and how many of its words were read to find it.
+// A set's highest member, and how many of its words were read to find it.
 pub struct SearchResult {
     pub found: Found,
     pub words_read: u32,

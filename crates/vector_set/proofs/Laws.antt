@@ -130,16 +130,6 @@ pub collect-is : (f : ℕ → Bool) (s : List ℕ) → Words s → ((v : ℕ) �
 collect-is f s w h = set-ext s (collect f) w (collect-words f) (λ v l. h v l ∙ sym (has-collect f v l))
 
 -- ---- the highest member
-below-has : (s : List ℕ) (n v : ℕ) → highestBelow s n ≡ some v → (has s v ≡ true) × (v < n)
-unfolding highestBelow
-below-has s zero v e = clash (cc)
-below-has s (suc n) v e = go (has s n) refl e (λ q. below-has s n v q)
-  where
-    go : (b : Bool) → has s n ≡ b → cond b (some n) (highestBelow s n) ≡ some v → (highestBelow s n ≡ some v → (has s v ≡ true) × (v < n))
-        → (has s v ≡ true) × (v < suc n)
-    go true p q ih = let d : n ≡ v = cc in (rw (← d) p, omega arith)
-    go false p q ih = let r = ih q in (r .0, omega arith)
-
 -- what holds below n, and at n, holds below n + 1
 step : (P : ℕ → Type 0) (n : ℕ) → P n → ((v : ℕ) → v < n → P v) → (v : ℕ) → v < suc n → P v
 step P n p h v l = go (eqb v n) refl
@@ -158,15 +148,17 @@ below-none s (suc n) e = go (has s n) refl e (λ q. below-none s n q)
     go true p q ih = clash (cc)
     go false p q ih = step (λ (v : ℕ). has s v ≡ false) n p (ih q)
 
-below-above : (s : List ℕ) (n v : ℕ) → highestBelow s n ≡ some v → (w : ℕ) → w < n → v < w → has s w ≡ false
+-- what is found is a member below n, and none between is
+below-found : (s : List ℕ) (n v : ℕ) → highestBelow s n ≡ some v → (has s v ≡ true) × (v < n) × ((w : ℕ) → w < n → v < w → has s w ≡ false)
 unfolding highestBelow
-below-above s zero v e = λ w l g. absurd (not-suc-le-zero l)
-below-above s (suc n) v e = go (has s n) refl e (λ q. below-above s n v q)
+below-found s zero v e = clash (cc)
+below-found s (suc n) v e = go (has s n) refl e (λ q. below-found s n v q)
   where
-    go : (b : Bool) → has s n ≡ b → cond b (some n) (highestBelow s n) ≡ some v → (highestBelow s n ≡ some v → (w : ℕ) → w < n → v < w → has s w ≡ false)
-        → (w : ℕ) → w < suc n → v < w → has s w ≡ false
-    go true p q ih = λ w l g. let d : n ≡ v = cc in let z : ⊥ = omega arith in absurd z
-    go false p q ih = step (λ (w : ℕ). v < w → has s w ≡ false) n (λ g. p) (ih q)
+    go : (b : Bool) → has s n ≡ b → cond b (some n) (highestBelow s n) ≡ some v
+        → (highestBelow s n ≡ some v → (has s v ≡ true) × (v < n) × ((w : ℕ) → w < n → v < w → has s w ≡ false))
+        → (has s v ≡ true) × (v < suc n) × ((w : ℕ) → w < suc n → v < w → has s w ≡ false)
+    go true p q ih = let d : n ≡ v = cc in (rw (← d) p, omega arith, λ w l g. let z : ⊥ = omega arith in absurd z)
+    go false p q ih = let r = ih q in (r .0, omega arith, step (λ (w : ℕ). v < w → has s w ≡ false) n (λ g. p) (r .2))
 
 below-is : (s : List ℕ) (n v : ℕ) → v < n → has s v ≡ true → ((w : ℕ) → w < n → v < w → has s w ≡ false) → highestBelow s n ≡ some v
 unfolding highestBelow
@@ -188,16 +180,16 @@ below-no s (suc n) h = let t : has s n ≡ false = h n (omega arith) in rw t (be
 -- the highest is a member
 pub highest-has : (s : List ℕ) (v : ℕ) → highest s ≡ some v → (has s v ≡ true) × (v < 256)
 unfolding highest
-highest-has s v e = below-has s 256 v e
+highest-has s v e = let r = below-found s _ v e in let l : v < 256 = omega arith in (r .0, l)
 
 -- no member is above the highest
 pub highest-above : (s : List ℕ) (v : ℕ) → highest s ≡ some v → (w : ℕ) → w < 256 → v < w → has s w ≡ false
 unfolding highest
-highest-above s v e = below-above s 256 v e
+highest-above s v e w l g = below-found s _ v e .2 w (omega arith) g
 
 pub highest-none : (s : List ℕ) → highest s ≡ none → (v : ℕ) → v < 256 → has s v ≡ false
 unfolding highest
-highest-none s e = below-none s 256 e
+highest-none s e v l = below-none s _ e v (omega arith)
 
 -- a member with none above it is the highest
 pub highest-is : (s : List ℕ) (v : ℕ) → v < 256 → has s v ≡ true → ((w : ℕ) → w < 256 → v < w → has s w ≡ false) → highest s ≡ some v

@@ -1,4 +1,4 @@
--- Sets of vectors 0 to 255: eight words of 32 bits, the lowest vectors first (clause 2.7 of docs/SPECIFICATION.md).
+-- Sets of vectors 0 to 255: eight words of 32 bits, the lowest vectors first (clauses 2.7 and 2.17 of docs/SPECIFICATION.md).
 -- A set is said by its members: `collect f` is the set of the v with f v, and `has s v` says whether v is a member of s.
 -- Assumes nothing.
 use mathlib.Core.Path.{_≡_}
@@ -12,7 +12,7 @@ use Rattle.vector_set.specs.declared.Found.{Found}
 use Rattle.vector_set.specs.declared.Found.the-variants.{Vector, Nothing}
 use Rattle.vector_set.specs.Bits.{one, bitAt, bits}
 
--- v is a member of s: bit v mod 32 of word v div 32 (2.7)
+-- v is a member of s: bit v mod 32 of word v div 32 (2.7, 2.17)
 unfoldable pub has : List ℕ → ℕ → Bool
 has s v = bitAt (getD s (v / 32) 0) (v % 32)
 
@@ -59,7 +59,7 @@ unfoldable pub highestBelow : List ℕ → ℕ → Option ℕ
 highestBelow s zero = none
 highestBelow s (suc n) = let r = highestBelow s n in cond (has s n) (some n) r
 
--- the highest member, or none
+-- the highest member, or none (2.17)
 unfoldable pub highest : List ℕ → Option ℕ
 highest s = highestBelow s 256
 

@@ -26,7 +26,7 @@ at-most-eight s = go (highest s) refl
   where
     go : (o : Option ℕ) → highest s ≡ o → wordsRead s ≤ 8
     go none e = omega (arith, reads s none e)
-    go (some v) e = omega (arith, reads s (some v) e)
+    go (some v) e = let l : v < 256 = highest-has s v e .1 in omega (arith, reads s (some v) e)
 
 -- ---- a word without members is 0
 is-zero : (s : List ℕ) (k : ℕ) → Words s → k < 8 → ((v : ℕ) → v < 256 → v / 32 ≡ k → has s v ≡ false) → getD s k 0 ≡ 0
@@ -124,7 +124,7 @@ fewer-do-not s m l = go (highest s) refl
 pub search-claims : SearchClaims
 search-claims =
     record {
-      memberByBit = λ s k b i l. has-word s k b l;
+      memberByBit = has-word;
       isHighest = λ s v e. (highest-has s v e .1, highest-has s v e .0, highest-above s v e);
       noneIsEmpty = highest-none;
       atMostEight = at-most-eight;

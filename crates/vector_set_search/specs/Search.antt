@@ -10,31 +10,31 @@ use lib.ListN.{getD}
 use Rattle.vector_set.specs.Bits.{bitAt}
 use Rattle.vector_set.specs.Sets.{has, highest, Words}
 
--- the words from word 7 down to that of the answer, which counts too; without an answer all eight
+-- how many words there are from word 7 down to that of the answer, which counts too; without an answer all eight (2.17)
 abbrev pub wordsDownTo : Option ℕ → ℕ
 wordsDownTo none = 8
 wordsDownTo (some v) = 8 - v / 32
 
--- the words that a search of s reads (2.17)
+-- how many words a search of s reads (2.17)
 unfoldable pub wordsRead : List ℕ → ℕ
 wordsRead s = wordsDownTo (highest s)
 
 -- ---- what is claimed
--- word k is one of the topmost m
+-- word k is one of the topmost m (13.68, 13.69)
 abbrev pub InTop : ℕ → ℕ → Type 0
 InTop m k = 8 ≤ k + m
 
--- every word above word k is 0
+-- every word above word k is 0 (13.68)
 abbrev pub ZeroAbove : List ℕ → ℕ → Type 0
 ZeroAbove s k = (j : ℕ) → k < j → j < 8 → getD s j 0 ≡ 0
 
--- s and t have the same members in the topmost m words
+-- s and t have the same members in the topmost m words (13.69)
 abbrev pub SameTop : ℕ → List ℕ → List ℕ → Type 0
 SameTop m s t = (v : ℕ) → v < 256 → InTop m (v / 32) → has t v ≡ has s v
 
 pub record SearchClaims : Type 0 where
-  -- vector 32 k + b is a member exactly if bit b of word k is set (2.17)
-  pub memberByBit : (s : List ℕ) (k b : ℕ) → k < 8 → b < 32 → has s (32 * k + b) ≡ bitAt (getD s k 0) b
+  -- vector 32 k + b is a member exactly if bit b of word k is set (2.17, 13.67)
+  pub memberByBit : (s : List ℕ) (k b : ℕ) → b < 32 → has s (32 * k + b) ≡ bitAt (getD s k 0) b
   -- an answer is a member, and no member is above it (13.67)
   pub isHighest : (s : List ℕ) (v : ℕ) → highest s ≡ some v → (v < 256) × (has s v ≡ true) × ((w : ℕ) → w < 256 → v < w → has s w ≡ false)
   -- without an answer there is no member (13.67)
@@ -52,7 +52,7 @@ pub record SearchClaims : Type 0 where
   pub fewerDoNotSuffice : (s : List ℕ) (m : ℕ) → m < wordsRead s → (t : List ℕ) × Words t × SameTop m s t × (highest t ≡ highest s → ⊥)
 
 -- ---- worked cases
--- no member; 0; 31; 32; 0x62; 0x80; 0xAD; 0xDF; 0xE0; 31, 0x41 and 0x5F; all
+-- no member; 0; 31; 32; 0x62; 0x80; 0xAD; 0xDF; 0xE0; 31, 0x41 and 0x5F; all (14.72)
 abbrev pub searchedSets : List (List ℕ)
 searchedSets =
     (0 ∷ 0 ∷ 0 ∷ 0 ∷ 0 ∷ 0 ∷ 0 ∷ 0 ∷ [])

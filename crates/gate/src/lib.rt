@@ -8,7 +8,7 @@ use model::Outcome;
 use model::Refusal;
 use model::Stepped;
 
-// The code of a refusal (11.1 to 11.11).
+// The code of a refusal (11.1 to 11.11, 11.21).
 pub fn code(c: Refusal) -> u32
     ensures { λ r. ⌜ r ≡ codeOf c ⌝ }
 {
@@ -24,6 +24,7 @@ pub fn code(c: Refusal) -> u32
         Refusal::BadParameter => 0x8000_0005,
         Refusal::RegistrationsFull => 0x8000_0007,
         Refusal::NotRegistered => 0x8000_1000,
+        Refusal::BadList => 6,
     }
 }
 

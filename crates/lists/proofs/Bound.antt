@@ -1,7 +1,7 @@
 -- Why no item is presented more often than it was pending at first, admitted, sent and returned: an item that is pending has not been presented yet.
 -- Assumes nothing.
 use mathlib.Core.Path.{_≡_, refl, ap}
-use mathlib.Core.Bool.{Bool, false, cond, _&&_, and-true, and-false}
+use mathlib.Core.Bool.{Bool, true, false, cond, _&&_, and-true, and-false}
 use mathlib.Core.List.{List, [], _∷_}
 use mathlib.Core.Option.{Option, none, some}
 use Prim.Native.Nat.{ℕ, _+_, _≤_}
@@ -18,17 +18,17 @@ use Rattle.model.specs.declared.Request.the-variants as request
 use Rattle.model.specs.declared.Vcpu.{Vcpu}
 use Rattle.model.specs.declared.Module.{Module}
 use Rattle.model.specs.State.{isActive, size, vcpuAt, withVcpu}
-use Rattle.model.specs.Codes.{codeOf, accept, refuse, Answer, nothing, presents, window, Result, done, counted, refused, accepted, presentedIn, presentedBy}
+use Rattle.model.specs.Codes.{codeOf, accept, refuse, Answer, nothing, presents, window, Result, done, counted, coded, refused, accepted, presentedIn, presentedBy}
 use Rattle.model.specs.Items.{isMachineCheck, InRange, sameItem, isItem, itemInFlight, pending, unmarkAll}
 use Rattle.model.specs.Doorbell.{Part, inPart, admitted}
 use Rattle.model.specs.Ipi.{icrItem, icrTarget, hits, reach, sent}
-use Rattle.model.specs.Requests.{requestOf, forget, serve}
-use Rattle.model.specs.Events.{Act, notice, call, entry, nonDelivery, handBack, at, Bytes, Event, noticed, offer, entered}
-use Rattle.model.specs.Events.{undelivered, emptied, verdict, callEffect, effect, concluded, step, next, run}
+use Rattle.model.specs.Requests.{nameable, permission, requestOf, forget, serve}
+use Rattle.model.specs.Events.{Act, notice, call, entry, nonDelivery, handBack, allow, at, Bytes, Event, noticed, offer, entered}
+use Rattle.model.specs.Events.{undelivered, emptied, verdict, callEffect, listAfter, effect, concluded, step, next, run}
 use Rattle.lists.specs.Book.{Book, bookOf, partOn, partBy}
 use Rattle.lists.specs.Lists.{results}
 use Rattle.lists.specs.Ledger.{Ledger, Quiet, addAdmitted, addSent, addPresented, addReturned, withLatest, writeSends, postAct, ledger, opened, ledgerOf}
-use Rattle.vector_set.specs.Bits.{one}
+use Rattle.vector_set.specs.Bits.{one, bitAt}
 use Rattle.model.proofs.Stored.{on-put, vcpuAt-count, size-put, count-same, vcpuAt-sent, by-verdict, Known, known-of}
 use Rattle.model.specs.Demand2.{isCall}
 use Rattle.vector_set.proofs.Laws.{clash}
@@ -37,6 +37,8 @@ use Rattle.lists.proofs.Follow.{part-accepted, part-refused, follow}
 use Rattle.model.proofs.Stays.{vmpl-next}
 use Rattle.model.proofs.Allowed.{none-in}
 use Rattle.model.proofs.Kept.{sent-item}
+use Rattle.model.proofs.ListLaws.{after-each}
+use Rattle.model.proofs.Listed.{permission-by}
 use Rattle.model.proofs.Presented.{pending-present, pending-giveBack, pending-emptied}
 use Rattle.lists.proofs.Pending.{gives, Like, like-noticed, like-serve}
 use Rattle.lists.proofs.Pending.{like-reach, Offered, offer-pending, Follows, flying-flight, tally-is, or-le, take-is}
@@ -51,6 +53,7 @@ quiet-refused j x s w i (call op d y) c g h = refl
 quiet-refused j x s w i (entry iF sh bl) c g h = refl
 quiet-refused j x s w i nonDelivery c g h = refl
 quiet-refused j x s w i (handBack p iF sh) c g h = refl
+quiet-refused j x s w i (allow cs q) c g h = refl
 
 pub quiet-read : (j : ℕ) (x : Item) (s : Part) (w : Book) (i op c y : ℕ) (a : Result) (g : Ledger) → eqb op 3 ≡ false
     → postAct j x s w i (call op c y) a g ≡ g
@@ -65,6 +68,7 @@ unread-number j x s w i (call op c y) a b g = refl
 unread-number j x s w i (entry iF sh bl) a b g = refl
 unread-number j x s w i nonDelivery a b g = refl
 unread-number j x s w i (handBack p iF sh) a b g = refl
+unread-number j x s w i (allow cs q) a b g = refl
 
 unread-counts : (j : ℕ) (x : Item) (s : Part) (w : Book) (i : ℕ) (e : Act Bytes) (a b c d : ℕ) (g : Ledger)
     → postAct j x s w i e (counted a b) g ≡ postAct j x s w i e (counted c d) g
@@ -74,6 +78,22 @@ unread-counts j x s w i (call op k y) a b c d g = refl
 unread-counts j x s w i (entry iF sh bl) a b c d g = refl
 unread-counts j x s w i nonDelivery a b c d g = refl
 unread-counts j x s w i (handBack p iF sh) a b c d g = refl
+unread-counts j x s w i (allow cs q) a b c d g = refl
+
+unread-codes : (j : ℕ) (x : Item) (s : Part) (w : Book) (i : ℕ) (e : Act Bytes) (a b : ℕ) (ks ls : List ℕ) (g : Ledger)
+    → postAct j x s w i e (coded a ks) g ≡ postAct j x s w i e (coded b ls) g
+unfolding postAct
+unread-codes j x s w i (notice p) a b ks ls g = refl
+unread-codes j x s w i (call op k y) a b ks ls g = refl
+unread-codes j x s w i (entry iF sh bl) a b ks ls g = refl
+unread-codes j x s w i nonDelivery a b ks ls g = refl
+unread-codes j x s w i (handBack p iF sh) a b ks ls g = refl
+unread-codes j x s w i (allow cs q) a b ks ls g = refl
+
+quiet-list : (j : ℕ) (x : Item) (s : Part) (w : Book) (i : ℕ) (cs : List ℕ) (q : Bytes) (a : Result) (g : Ledger)
+    → postAct j x s w i (allow cs q) a g ≡ g
+unfolding postAct
+quiet-list j x s w i cs q a g = refl
 
 -- no call sends a machine check
 no-check : (y : Item) → isMachineCheck y ≡ false → sameItem item.MachineCheck y ≡ false
@@ -98,6 +118,7 @@ quiet-other j x s w i (call op c y) a g h n = clash (cc)
 quiet-other j x s w i (entry iF sh bl) a g h n = rw (n, and-false (accepted a), and-false (isItem x (presentedBy a)))
 quiet-other j x s w i nonDelivery a g h n = ap (λ (b : Bool). addReturned b g) (outside (accepted a && isItem x (g .latest)) (eqb j i) n)
 quiet-other j x s w i (handBack p iF sh) a g h n = refl
+quiet-other j x s w i (allow cs q) a g h n = refl
 
 pub quiet : Quiet
 quiet =
@@ -106,6 +127,8 @@ quiet =
       reads = quiet-read;
       numbers = unread-number;
       counts = unread-counts;
+      codes = unread-codes;
+      lists = quiet-list;
       machineChecks = quiet-check;
       others = quiet-other;
     }
@@ -166,6 +189,17 @@ module _ (j : ℕ) (x : Item) (r : InRange x) (c : ℕ) where
   cover-emptied : (v : Vcpu) (g : Ledger) → Covers v g → Covers (emptied v) g
   unfolding emptied unmarkAll
   cover-emptied v g h = record { covered = rw (pending-emptied x r v) (omega (arith, h .covered)); follows = h .follows }
+
+  -- the record of a list's vCPU, after one value by its test and bit 8
+  cover-permitted : (d : ℕ) (n t : Bool) (i k : ℕ) (v : Vcpu) (g : Ledger) → Covers v g → Covers (callEffect (permission-by d n t) i k v .vcpu) g
+  unfolding callEffect serve
+  cover-permitted d true true i k v g h = record { covered = h .covered; follows = tt }
+  cover-permitted d true false i k v g h = record { covered = h .covered; follows = tt }
+  cover-permitted d false t i k v g h = h
+
+  cover-listed : (cs : List ℕ) (i k : ℕ) (v : Vcpu) (g : Ledger) → Covers v g → Covers (listAfter i k cs v) g
+  unfolding requestOf permission
+  cover-listed cs i k v g h = after-each (λ u. Covers u g) i k (λ d u q. cover-permitted d (nameable d) (bitAt d 8) i k u g q) cs v h
 
   -- ---- one accepted event
   module _ (m : Module) (g : Ledger) (h : Covers (vcpuAt m j) g) where
@@ -249,6 +283,11 @@ module _ (j : ℕ) (x : Item) (r : InRange x) (c : ℕ) where
         (on-put m i (emptied (vcpuAt m i)) j (known-of m i (handBack p iF sh) e .there) (λ _ b u v. Covers u g → Covers v g)
         (λ q. cover-emptied (vcpuAt m i) g q) (λ q. q) h)
 
+    cover-at i (allow cs q) e =
+        rw (vcpuAt-count)
+        (on-put m i (listAfter i (m .registrations) cs (vcpuAt m i)) j (known-of m i (allow cs q) e .there) (λ _ b u v. Covers u g → Covers v g)
+        (λ p. cover-listed cs i (m .registrations) (vcpuAt m i) g p) (λ p. p) h)
+
     -- a refused event admits nothing by the book
     unadmitted : (i : ℕ) (a : Act Bytes) (d : Refusal) → verdict m (at i a) ≡ refuse d → inPart x (partBy (m .vmpl) (bookOf m) (at i a)) ≡ false
     unfolding partOn
@@ -257,6 +296,7 @@ module _ (j : ℕ) (x : Item) (r : InRange x) (c : ℕ) where
     unadmitted i (entry iF sh bl) d e = none-in x r
     unadmitted i nonDelivery d e = none-in x r
     unadmitted i (handBack p iF sh) d e = none-in x r
+    unadmitted i (allow cs q) d e = none-in x r
 
     -- whichever it is
     cover-step : (e : Event) → Covers (vcpuAt (next m e) j) (posted (e .vcpu) (e .act) (step m e .result))

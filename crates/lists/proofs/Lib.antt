@@ -2,6 +2,7 @@ pub mod BookLaws
 pub mod FollowCalls
 pub mod Follow
 pub mod Counts
+pub mod Fed
 pub mod Alike
 pub mod Parts
 pub mod Pending

@@ -1,9 +1,10 @@
 -- The book (a term of document 01), which tells what the guest has allowed, and what the notices of a list admit by it (section 12).
 -- Assumes nothing.
+use mathlib.Core.Path.{_≡_}
 use mathlib.Core.Bool.{cond, _&&_}
 use mathlib.Core.List.{List, [], _∷_, map}
 use mathlib.Core.Option.{Option, none, some}
-use Prim.Native.Nat.{ℕ, _+_, _-_, _%_}
+use Prim.Native.Nat.{ℕ, _+_, _-_, _%_, _<_, _≤_}
 use lib.Dec.{leb, ltb, eqb}
 use lib.ListN.{length, getD, set}
 use Rattle.model.specs.declared.Phase.{Phase}
@@ -13,17 +14,18 @@ use Rattle.model.specs.declared.Module.{Module}
 use Rattle.model.specs.State.{isActive, isLeaving, absent, size}
 use Rattle.model.specs.Doorbell.{longEnough, Part, noPart, admitted}
 use Rattle.model.specs.Requests.{nameable}
-use Rattle.model.specs.Events.{Act, notice, call, entry, nonDelivery, handBack, On, at, Bytes, Event}
+use Rattle.model.specs.Events.{Act, notice, call, entry, nonDelivery, handBack, allow, On, at, Bytes, Event}
 use Rattle.vector_set.specs.Bits.{bitAt}
 use Rattle.vector_set.specs.Sets.{empty, insert, remove}
 
--- ---- what the book is fed: the events with the lengths of their pages
+-- ---- what the book is fed: the events with the lengths of their pages and second lists
 abbrev pub mapPage : {P Q : Type 0} → (P → Q) → Act P → Act Q
 mapPage f (notice p) = notice (f p)
 mapPage f (call op c x) = call op c x
 mapPage f (entry iF sh bl) = entry iF sh bl
 mapPage f nonDelivery = nonDelivery
 mapPage f (handBack p iF sh) = handBack (f p) iF sh
+mapPage f (allow cs q) = allow cs (f q)
 
 abbrev pub Note : Type 0
 Note = On ℕ
@@ -99,17 +101,24 @@ permits i c w =
 unfoldable pub called : ℕ → ℕ → ℕ → Book → Book
 called i op c w = cond (eqb op 1) (registers i c w) (cond (eqb op 4) (permits i c w) w)
 
+-- a list of ECX values: each in its turn (12.24)
+unfoldable pub permitsEach : ℕ → List ℕ → Book → Book
+permitsEach i [] w = w
+permitsEach i (c ∷ cs) w = permitsEach i cs (permits i c w)
+
 -- the vCPU i has left (12.16)
 unfoldable pub leaves : ℕ → Book → Book
 leaves i w = withRecord i (record { phase = Left; allowed = empty }) w
 
--- an act on the vCPU i: two calls and the hand-back change the book, nothing else does (12.10, 12.11, 12.16, 12.17)
+-- an act on the vCPU i: two calls, the hand-back and the list change the book, nothing else does (12.10, 12.11, 12.16, 12.17, 12.24, 12.25)
 unfoldable pub feedAct : ℕ → Act ℕ → Book → Book
 feedAct i (notice len) w = w
 feedAct i (call op c x) w = cond (ltb i (w .n) && isActive (recordAt w i .phase)) (called i op c w) w
 feedAct i (entry iF sh bl) w = w
 feedAct i nonDelivery w = w
 feedAct i (handBack len iF sh) w = cond (ltb i (w .n) && isLeaving (recordAt w i .phase) && leb 256 len) (leaves i w) w
+feedAct i (allow cs len) w =
+    cond (ltb i (w .n) && isActive (recordAt w i .phase) && (leb (length cs) 256 && leb (length cs) len)) (permitsEach i cs w) w
 
 abbrev pub feed : Book → Note → Book
 feed w e = feedAct (e .vcpu) (e .act) w
@@ -119,6 +128,13 @@ unfoldable pub feedAll : Book → List Note → Book
 feedAll w [] = w
 feedAll w (e ∷ es) = feedAll (feed w e) es
 
+-- a list whose lengths fit is fed as its single calls are, and another not at all (12.24, 12.25, 13.73)
+pub record FedAsCalls : Type 0 where
+  pub fitting : (w : Book) (i x : ℕ) (cs : List ℕ) (len : ℕ) → length cs ≤ 256 → length cs ≤ len
+      → feed w (at i (allow cs len)) ≡ feedAll w (map (λ c. at i (call 4 c x)) cs)
+  pub tooMany : (w : Book) (i : ℕ) (cs : List ℕ) (len : ℕ) → 256 < length cs → feed w (at i (allow cs len)) ≡ w
+  pub tooShort : (w : Book) (i : ℕ) (cs : List ℕ) (len : ℕ) → len < length cs → feed w (at i (allow cs len)) ≡ w
+
 -- ---- what is admitted by it, at the VMPL l
 -- the page of a notice, if the act is one
 abbrev pub noticePage : {P : Type 0} → Act P → Option P
@@ -127,6 +143,7 @@ noticePage (call op c x) = none
 noticePage (entry iF sh bl) = none
 noticePage nonDelivery = none
 noticePage (handBack p iF sh) = none
+noticePage (allow cs q) = none
 
 -- by a notice on the vCPU i with the page that there may be (12.18 to 12.20)
 unfoldable pub partOn : ℕ → Book → ℕ → Option Bytes → Part

@@ -7,7 +7,7 @@ use Prim.Native.Nat.{ℕ, _+_, _≤_}
 use Rattle.model.specs.declared.Item.{Item}
 use Rattle.model.specs.declared.Module.{Module}
 use Rattle.model.specs.State.{vcpuAt, start}
-use Rattle.model.specs.Codes.{Result, done, counted, answers, refused}
+use Rattle.model.specs.Codes.{Result, done, counted, answers, coded, refused}
 use Rattle.model.specs.Items.{InRange, IsVector, memberOf, pending}
 use Rattle.model.specs.Doorbell.{Part, inPart, noPart, admitted, items}
 use Rattle.model.specs.Events.{notice, at, Bytes, Event, step, final}
@@ -27,6 +27,7 @@ abbrev pub Exact : Result → Part → Part → Type 0
 Exact (done x) s t = ⊥
 Exact (counted a b) s t = (a + b ≡ items s) × (s ≡ t)
 Exact (answers a) s t = ⊥
+Exact (coded x ks) s t = ⊥
 Exact (refused c) s t = s ≡ noPart
 
 -- ---- of lists played on any module value m

@@ -13,11 +13,11 @@ use Rattle.model.specs.declared.Target.{Target}
 use Rattle.model.specs.declared.Target.the-variants.{Caller}
 use Rattle.model.specs.declared.Module.{Module}
 use Rattle.model.specs.State.{isActive, vcpuAt}
-use Rattle.model.specs.Codes.{Result, done, counted, refused, accepted, presentedBy}
+use Rattle.model.specs.Codes.{Result, done, counted, coded, refused, accepted, presentedBy}
 use Rattle.model.specs.Items.{sameItem, isItem, itemInFlight}
 use Rattle.model.specs.Doorbell.{Part, inPart}
 use Rattle.model.specs.Ipi.{icrItem, icrTarget, hits}
-use Rattle.model.specs.Events.{Act, notice, call, entry, nonDelivery, handBack, Bytes, Event}
+use Rattle.model.specs.Events.{Act, notice, call, entry, nonDelivery, handBack, allow, Bytes, Event}
 use Rattle.model.specs.Demand2.{isCall}
 use Rattle.lists.specs.Book.{Book, bookOf, recordAt, feed, note, partBy}
 use Rattle.lists.specs.Lists.{results}
@@ -67,6 +67,7 @@ postAct j x s w i (entry iF sh bl) a g =
     withLatest (cond (accepted a && eqb j i) (presentedBy a) (g .latest)) (addPresented (isItem x (presentedBy a) && eqb j i) g)
 postAct j x s w i nonDelivery a g = addReturned (accepted a && isItem x (g .latest) && eqb j i) g
 postAct j x s w i (handBack p iF sh) a g = g
+postAct j x s w i (allow cs q) a g = g
 
 -- folded over a list with its results, at the VMPL l, under the book that the events before left (12.18 to 12.20, 13.27)
 unfoldable pub ledger : ℕ → Item → ℕ → Book → List Event → List Result → Ledger → Ledger
@@ -95,6 +96,11 @@ pub record Quiet : Type 0 where
       → postAct j x s w i e (done a) g ≡ postAct j x s w i e (done b) g
   pub counts : (j : ℕ) (x : Item) (s : Part) (w : Book) (i : ℕ) (e : Act Bytes) (a b c d : ℕ) (g : Ledger)
       → postAct j x s w i e (counted a b) g ≡ postAct j x s w i e (counted c d) g
+  pub codes : (j : ℕ) (x : Item) (s : Part) (w : Book) (i : ℕ) (e : Act Bytes) (a b : ℕ) (ks ls : List ℕ) (g : Ledger)
+      → postAct j x s w i e (coded a ks) g ≡ postAct j x s w i e (coded b ls) g
+  -- nor is anything posted for a list of ECX values (12.26)
+  pub lists : (j : ℕ) (x : Item) (s : Part) (w : Book) (i : ℕ) (cs : List ℕ) (q : Bytes) (a : Result) (g : Ledger)
+      → postAct j x s w i (allow cs q) a g ≡ g
   -- nor does any call send a machine check (7.27, 12.21)
   pub machineChecks : (j : ℕ) (s : Part) (w : Book) (i op c y : ℕ) (a : Result) (g : Ledger) → postAct j item.MachineCheck s w i (call op c y) a g ≡ g
   -- and an act that is no call is posted on its own vCPU alone (12.19, 12.22, 13.27)

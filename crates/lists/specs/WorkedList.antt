@@ -10,11 +10,11 @@ use Rattle.model.specs.declared.Item.{Item}
 use Rattle.model.specs.declared.Item.the-variants as item
 use Rattle.model.specs.declared.Module.{Module}
 use Rattle.model.specs.State.{start}
-use Rattle.model.specs.Codes.{Answer, nothing, presents, window, Result, done, counted, answers, refused}
+use Rattle.model.specs.Codes.{Answer, nothing, presents, window, Result, done, counted, answers, coded, refused}
 use Rattle.model.specs.Items.{isItem}
 use Rattle.model.specs.Doorbell.{items}
 use Rattle.model.specs.Events.{notice, call, entry, nonDelivery, handBack, at, Event}
-use Rattle.model.specs.Cases.{sameNumbers, gives, counts, isRefused, isIdle, zeros, announcing, byte64, every}
+use Rattle.model.specs.Cases.{sameNumbers, gives, givesCodes, counts, isRefused, isIdle, zeros, announcing, byte64, every}
 use Rattle.model.specs.Worked.{eoi, icr, isShown, isWindow, answersBy, enters}
 use Rattle.lists.specs.Book.{bookOf, parts}
 use Rattle.lists.specs.Lists.{results, pages, struck, AllAlike}
@@ -48,6 +48,7 @@ abbrev sameResult : Result → Result → Bool
 sameResult (done x) r = gives x r
 sameResult (counted a b) r = counts a b r
 sameResult (answers a) r = answersBy (sameAnswer a) r
+sameResult (coded x ks) r = givesCodes x ks r
 sameResult (refused c) r = isRefused c r
 
 abbrev sameResults : List Result → List Result → Bool

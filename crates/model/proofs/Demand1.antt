@@ -12,7 +12,7 @@ use borrow.Author.Tests.{leb-false, ltb-true, ltb-false, eqb-true, lt-ltb, le-lt
 use Rattle.model.specs.declared.Kind.{Kind}
 use Rattle.model.specs.declared.Kind.the-variants as kind
 use Rattle.model.specs.declared.Refusal.{Refusal}
-use Rattle.model.specs.declared.Refusal.the-variants.{UnknownVcpu, ShortPage, NotLeaving, NothingInFlight, NotActive}
+use Rattle.model.specs.declared.Refusal.the-variants.{UnknownVcpu, ShortPage, NotLeaving, NothingInFlight, NotActive, BadList}
 use Rattle.model.specs.declared.Refusal.the-variants.{BadParameter, RegistrationsFull, NotRegistered}
 use Rattle.model.specs.declared.Local.the-variants as local
 use Rattle.model.specs.declared.Request.{Request}
@@ -20,11 +20,11 @@ use Rattle.model.specs.declared.Request.the-variants as request
 use Rattle.model.specs.declared.Vcpu.{Vcpu}
 use Rattle.model.specs.declared.Module.{Module}
 use Rattle.model.specs.State.{isActive, isLeaving, isInFlight, size, vcpuAt, mayStart, started, stopped, start}
-use Rattle.model.specs.Codes.{codeOf, Verdict, accept, refuse, need, Result, done, counted, answers, refused, accepted, refusalOf}
+use Rattle.model.specs.Codes.{codeOf, Verdict, accept, refuse, need, Result, done, counted, answers, coded, refused, accepted, refusalOf}
 use Rattle.model.specs.Registers.{within, isRead, isWrite, isBoth, kindOf}
 use Rattle.model.specs.Ipi.{icrLegal}
 use Rattle.model.specs.Requests.{bad, registration, readBy, writeBy, writeValue, nameable, permission, requestOf, forget, serve, callVerdict}
-use Rattle.model.specs.Events.{Act, notice, call, entry, nonDelivery, handBack, at, Bytes, Event, pageOf, vcpuVerdict, verdict}
+use Rattle.model.specs.Events.{Act, notice, call, entry, nonDelivery, handBack, allow, at, Bytes, Event, pageOf, listFits, vcpuVerdict, verdict}
 use Rattle.model.specs.Events.{callEffect, effect, effectOf, concluded, Out, step, next, startResult, doStart}
 use Rattle.model.specs.Causes.{cause, firstCause, hasVcpu, inTable, badValue, allowable, badEcx, isKindNone, isKindRead, isKindWrite}
 use Rattle.model.specs.Causes.{callCauses, causes, startCauses}
@@ -219,6 +219,16 @@ verdict-causes m i (handBack p iF sh) =
     rw (has-size m i, ltb-leb (length p) 256)
     (needs (ltb i (size m)) UnknownVcpu _ _ (needs (isLeaving (vcpuAt m i .phase)) NotLeaving _ _ (needs (leb 256 (length p)) ShortPage accept none refl)))
 
+verdict-causes m i (allow cs q) =
+    rw (has-size m i, ltb-leb 256 (length cs), ltb-leb (length q) (length cs))
+    (needs (ltb i (size m)) UnknownVcpu _ _
+    (needs (isActive (vcpuAt m i .phase)) NotActive _ _
+    (needs (listFits cs q) BadList accept none refl ∙ ap (λ (b : Bool). cond b (some 6) none) (not-both (leb (length cs) 256) (leb (length cs) (length q))))))
+  where
+    not-both : (a b : Bool) → not (a && b) ≡ (not a || not b)
+    not-both true b = refl
+    not-both false b = refl
+
 -- ---- an accepted event refuses nothing
 call-answers : (r : Request) (m : Module) (i : ℕ) → callVerdict r i (m .registrations) (forget (vcpuAt m i)) ≡ accept
     → refusalOf (concluded (callEffect r i (m .registrations) (vcpuAt m i)) i m .result) ≡ none
@@ -235,6 +245,7 @@ answered m i (call op c x) e =
 answered m i (entry iF sh bl) e = refl
 answered m i nonDelivery e = refl
 answered m i (handBack p iF sh) e = refl
+answered m i (allow cs q) e = refl
 
 result-verdict : (m : Module) (e : Event) → refusalOf (step m e .result) ≡ refusalIn (verdict m e)
 result-verdict m e =
@@ -262,6 +273,7 @@ refused-keeps m e h = go (step m e .result) refl h
     go (done x) p q = clash (cc)
     go (counted a b) p q = clash (cc)
     go (answers a) p q = clash (cc)
+    go (coded x ks) p q = clash (cc)
     go (refused c) p q = unchanged m e c p
 
 -- ---- start
@@ -289,6 +301,7 @@ named : (r : Result) (c : ℕ) → refusalOf r ≡ some c → r ≡ refused c
 named (done x) c e = clash (cc)
 named (counted a b) c e = clash (cc)
 named (answers a) c e = clash (cc)
+named (coded x ks) c e = clash (cc)
 named (refused d) c e = cc
 
 first-none : (m : Module) (e : Event) → size m ≡ 0 → firstCause (causes m e) ≡ some 1

@@ -30,17 +30,17 @@ use Rattle.model.proofs.IcrBits.{same-delivery}
 
 -- ---- a write
 -- what an event without a page gives, by its verdict
-abbrev over : Verdict → Effect → ℕ → Module → Out
+abbrev pub over : Verdict → Effect → ℕ → Module → Out
 over accept f i m = concluded f i m
 over (refuse c) f i m = refusal c m []
 
 -- what the vCPU i gets that asks for r
-abbrev asks : Module → ℕ → Request → Out
+abbrev pub asks : Module → ℕ → Request → Out
 asks m i r =
     over (need (ltb i (size m)) UnknownVcpu (need (isActive (vcpuAt m i .phase)) NotActive (callVerdict r i (m .registrations) (forget (vcpuAt m i)))))
     (callEffect r i (m .registrations) (vcpuAt m i)) i m
 
-by-request : (m : Module) (i op c x : ℕ) → step m (at i (call op c x)) ≡ asks m i (requestOf op c x)
+pub by-request : (m : Module) (i op c x : ℕ) → step m (at i (call op c x)) ≡ asks m i (requestOf op c x)
 unfolding step verdict vcpuVerdict effect
 by-request m i op c x = pick (verdict m (at i (call op c x)))
   where

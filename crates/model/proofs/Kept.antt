@@ -24,7 +24,7 @@ use Rattle.model.specs.Registers.{endedAt, ended}
 use Rattle.model.specs.Ipi.{icrType, icrVector, icrItem, icrTarget, hits, reach}
 use Rattle.model.specs.Items.{InRange, isMachineCheck, pendingIn, pending, mark}
 use Rattle.model.specs.Requests.{requestOf, forget, leaveIf, serve}
-use Rattle.model.specs.Events.{Act, notice, call, entry, nonDelivery, handBack, at, Bytes, Event, noticed, Reply, gives}
+use Rattle.model.specs.Events.{Act, notice, call, entry, nonDelivery, handBack, allow, at, Bytes, Event, noticed, Reply, gives}
 use Rattle.model.specs.Events.{sends, callEffect, effect, effectOf, store, deliver, concluded, next}
 use Rattle.model.specs.Causes.{isHandBack}
 use Rattle.model.specs.Demand2.{isRequest, isCall}
@@ -32,6 +32,7 @@ use Rattle.vector_set.specs.Sets.{has, highest}
 use Rattle.vector_set.proofs.Laws.{clash, has-collect}
 use Rattle.model.proofs.Stored.{on-put, by-reach, vcpuAt-count, vcpuAt-sent, size-put, size-count, by-verdict, known-of, servedIn}
 use Rattle.model.proofs.ItemLaws.{pending-mark, rest-mark}
+use Rattle.model.proofs.ListLaws.{after-each}
 
 -- ---- what a guest call keeps: whatever is said of the marks, P and PL, and stays true where an item becomes pending
 abbrev Said : Type 1
@@ -153,6 +154,8 @@ stays-effect x b l i k v (call op c y) q = kept-call (InLevel x) (in-level-marks
 stays-effect x b l i k v (entry iF sh bl) q = clash (cc)
 stays-effect x b l i k v nonDelivery q = clash (cc)
 stays-effect x b l i k v (handBack p iF sh) q = clash (cc)
+stays-effect x b l i k v (allow cs p) q =
+    after-each (On (InLevel x)) i k (λ c u. kept-call (InLevel x) (in-level-marks x) (requestOf 4 c 0) i k u) cs v
 
 pub keeps-level : (m : Module) (e : Event) (j x : ℕ) → x < 256 → isRequest (e .act) ≡ true → Stays x (vcpuAt m j) (vcpuAt (next m e) j)
 unfolding concluded
@@ -171,6 +174,7 @@ own-phase (call op c x) v s h b = clash (cc)
 own-phase (entry iF sh bl) v s h b = clash (cc)
 own-phase nonDelivery v s h b = clash (cc)
 own-phase (handBack p iF sh) v s h b = clash (cc)
+own-phase (allow cs q) v s h b = clash (cc)
 
 reach-inactive : (y : Item) (t : Target) (i n k : ℕ) (v : Vcpu) → isActive (v .phase) ≡ false → reach y t i n k v ≡ v
 unfolding reach
@@ -207,6 +211,7 @@ no-sending l i k v (call op c x) m h = clash (cc)
 no-sending l i k v (entry iF sh bl) m h = refl
 no-sending l i k v nonDelivery m h = refl
 no-sending l i k v (handBack p iF sh) m h = refl
+no-sending l i k v (allow cs q) m h = refl
 
 pub keeps-others : (m : Module) (e : Event) (j : ℕ) → isCall (e .act) ≡ false → eqb j (e .vcpu) ≡ false → vcpuAt (next m e) j ≡ vcpuAt m j
 unfolding concluded

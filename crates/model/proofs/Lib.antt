@@ -3,6 +3,7 @@ pub mod Bytes
 pub mod Stored
 pub mod ItemLaws
 pub mod Stays
+pub mod ListLaws
 pub mod Allowed
 pub mod LevelledLaws
 pub mod Fitting
@@ -12,6 +13,7 @@ pub mod Kept
 pub mod Called
 pub mod IcrBits
 pub mod IcrWrites
+pub mod Listed
 pub mod NoticeCounts
 pub mod IpiNames
 pub mod Presented

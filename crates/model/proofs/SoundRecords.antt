@@ -26,7 +26,7 @@ use Rattle.model.specs.Doorbell.{Part, isLevel, inPart, admitted}
 use Rattle.model.specs.Registers.{ppr, class, endedAt, ended}
 use Rattle.model.specs.Ipi.{icrItem}
 use Rattle.model.specs.Requests.{mayName, nameable, requestOf, forget, leaveIf, serve}
-use Rattle.model.specs.Events.{Act, notice, call, entry, nonDelivery, handBack, Bytes, noticed, offerHighest, offer, present}
+use Rattle.model.specs.Events.{Act, notice, call, entry, nonDelivery, handBack, allow, Bytes, noticed, offerHighest, offer, present}
 use Rattle.model.specs.Events.{entered, giveBack, undelivered, emptied, Reply, gives, sends, callEffect, effect}
 use Rattle.model.specs.Reached.{Levelled, Sound}
 use Rattle.vector_set.specs.Sets.{Words, has, empty, insert, remove, highest}
@@ -35,6 +35,7 @@ use Rattle.model.proofs.Stored.{servedIn}
 use Rattle.model.proofs.Allowed.{admitted-fits}
 use Rattle.model.proofs.LevelledLaws.{levelled, levelled-empty, levelled-low, levelled-remove, levelled-insert, levelled-gains}
 use Rattle.model.proofs.Fitting.{Fitting, FittingRequest, fitting-request}
+use Rattle.model.proofs.ListLaws.{after-each}
 
 -- ---- records
 -- one with nothing in flight
@@ -243,6 +244,7 @@ sending-effect l i k v (call op c x) = sending-call (requestOf op c x) i k v (fi
 sending-effect l i k v (entry iF sh bl) = tt
 sending-effect l i k v nonDelivery = tt
 sending-effect l i k v (handBack p iF sh) = tt
+sending-effect l i k v (allow cs q) = tt
 
 pub sound-effect : (l i k : ℕ) (v : Vcpu) (a : Act Bytes) → servedIn a (v .phase) ≡ true → Sound v → Sound (effect l i k v a .vcpu)
 unfolding effect
@@ -251,3 +253,5 @@ sound-effect l i k v (call op c x) on h = sound-call (requestOf op c x) i k v (f
 sound-effect l i k v (entry iF sh bl) on h = sound-entered (offer iF sh bl v) v (shown-offer iF sh bl v h) on h
 sound-effect l i k v nonDelivery on h = sound-undelivered (itemInFlight (v .flight)) v (returned-flying v h) h
 sound-effect l i k v (handBack p iF sh) on h = sound-emptied v on h
+sound-effect l i k v (allow cs q) on h =
+    after-each Sound i k (λ c u. sound-call (requestOf 4 c 0) i k u (fitting-request 4 c 0)) cs v h

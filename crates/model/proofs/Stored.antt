@@ -1,13 +1,13 @@
 -- A module's record after one was stored and after an IPI, and the step of an event by its verdict: the laws on which all claims stand.
 -- Assumes nothing.
-use mathlib.Core.Path.{_≡_, refl, sym, subst, _∙_}
+use mathlib.Core.Path.{_≡_, refl, sym, ap, subst, _∙_}
 use mathlib.Core.Bool.{Bool, true, false, cond, _&&_, and-false}
 use mathlib.Core.List.{List, [], _∷_}
 use Prim.Native.Nat.{ℕ, zero, suc, _+_, _<_, _≤_, zero-le}
 use native.Mathlib.Omega.{arith}
 use lib.Dec.{leb, ltb, eqb}
-use lib.ListN.{length, getD, List·getD-eq-default}
-use lib.Seq.{getD-set-same, getD-set-other}
+use lib.ListN.{length, getD, set, length-set, List·getD-eq-default}
+use lib.Seq.{getD-set-same, getD-set-other, set-getD}
 use borrow.Author.Tests.{eqb-true, eqb-false, leb-true, ltb-true, ltb-false}
 use Rattle.model.specs.declared.Phase.{Phase}
 use Rattle.model.specs.declared.Phase.the-variants.{Left}
@@ -21,7 +21,7 @@ use Rattle.model.specs.State.{isActive, isLeaving, bare, absent, size, v
 use Rattle.model.specs.Codes.{Verdict, accept, refuse, need}
 use Rattle.model.specs.Items.{mark}
 use Rattle.model.specs.Ipi.{hits, reached, reach, mapFrom, sent}
-use Rattle.model.specs.Events.{Act, notice, call, entry, nonDelivery, handBack, Bytes, Event, pageOf}
+use Rattle.model.specs.Events.{Act, notice, call, entry, nonDelivery, handBack, allow, Bytes, Event, pageOf}
 use Rattle.model.specs.Events.{vcpuVerdict, verdict, effectOf, Out, refusal, concluded, decided, step}
 use Rattle.vector_set.proofs.Laws.{clash}
 
@@ -40,6 +40,28 @@ on-put m i v j h P yes′ no′ = pick (eqb j i) refl
 pub get-put : (m : Module) (i : ℕ) (v : Vcpu) → i < length (m .vcpus) → vcpuAt (withVcpu m i v) i ≡ v
 unfolding withVcpu vcpuAt
 get-put m i v l = getD-set-same (m .vcpus) i v absent l
+
+abbrev pub withVcpus : Module → List Vcpu → Module
+withVcpus m l = record { n = m .n; vmpl = m .vmpl; registrations = m .registrations; vcpus = l }
+
+-- a record stored back as it was
+pub put-same : (m : Module) (i : ℕ) → withVcpu m i (vcpuAt m i) ≡ m
+unfolding withVcpu vcpuAt
+put-same m i = ap (withVcpus m) (set-getD (m .vcpus) i absent)
+
+-- a record stored to once more
+set-set : (l : List Vcpu) (i : ℕ) (u v : Vcpu) → set (set l i u) i v ≡ set l i v
+set-set [] i u v = refl
+set-set (w ∷ l) zero u v = refl
+set-set (w ∷ l) (suc i) u v = ap (λ (t : List Vcpu). w ∷ t) (set-set l i u v)
+
+pub put-put : (m : Module) (i : ℕ) (u v : Vcpu) → withVcpu (withVcpu m i u) i v ≡ withVcpu m i v
+unfolding withVcpu
+put-put m i u v = ap (withVcpus m) (set-set (m .vcpus) i u v)
+
+pub put-length : (m : Module) (i : ℕ) (v : Vcpu) → length (withVcpu m i v .vcpus) ≡ length (m .vcpus)
+unfolding withVcpu
+put-length m i v = length-set (m .vcpus) i v
 
 pub vcpuAt-count : (k : ℕ) (m : Module) (j : ℕ) → vcpuAt (withRegistrations k m) j ≡ vcpuAt m j
 unfolding vcpuAt withRegistrations
@@ -174,6 +196,7 @@ servedIn (call op c x) = isActive
 servedIn (entry iF sh bl) = isActive
 servedIn nonDelivery = isActive
 servedIn (handBack p iF sh) = isLeaving
+servedIn (allow cs q) = isActive
 
 pub known-of : (m : Module) (i : ℕ) (a : Act Bytes) → verdict m (record { vcpu = i; act = a }) ≡ accept → Known m i (servedIn a)
 unfolding verdict vcpuVerdict
@@ -182,3 +205,4 @@ known-of m i (call op c x) h = known m i isActive refl NotActive _ h
 known-of m i (entry iF sh bl) h = known m i isActive refl NotActive accept h
 known-of m i nonDelivery h = known m i isActive refl NotActive _ h
 known-of m i (handBack p iF sh) h = known m i isLeaving refl NotLeaving _ h
+known-of m i (allow cs q) h = known m i isActive refl NotActive _ h

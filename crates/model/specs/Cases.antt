@@ -12,7 +12,7 @@ use Rattle.model.specs.declared.Module.{Module}
 use Rattle.vector_set.specs.Sets.{empty, full, insert}
 use Rattle.model.specs.Items.{isVectorItem}
 use Rattle.model.specs.State.{vcpuAt, start, withVcpu, withAllowed, withIrr, withIsr, withTpr, withPhase}
-use Rattle.model.specs.Codes.{Answer, nothing, presents, window, Result, done, counted, answers, refused}
+use Rattle.model.specs.Codes.{Answer, nothing, presents, window, Result, done, counted, answers, coded, refused}
 use Rattle.model.specs.Events.{notice, call, entry, handBack, at, Event, Out, step, next}
 
 -- ---- tests that compute
@@ -27,6 +27,7 @@ abbrev pub gives : ℕ → Result → Bool
 gives x (done y) = eqb x y
 gives x (counted a b) = false
 gives x (answers a) = false
+gives x (coded z ks) = false
 gives x (refused c) = false
 
 -- a notice accepted with the numbers x and y
@@ -34,12 +35,22 @@ abbrev pub counts : ℕ → ℕ → Result → Bool
 counts x y (done z) = false
 counts x y (counted a b) = eqb x a && eqb y b
 counts x y (answers a) = false
+counts x y (coded z ks) = false
 counts x y (refused c) = false
+
+-- the number and the codes of a list
+abbrev pub givesCodes : ℕ → List ℕ → Result → Bool
+givesCodes x ks (done y) = false
+givesCodes x ks (counted a b) = false
+givesCodes x ks (answers a) = false
+givesCodes x ks (coded y ls) = eqb x y && sameNumbers ks ls
+givesCodes x ks (refused c) = false
 
 abbrev pub isRefused : ℕ → Result → Bool
 isRefused c (done x) = false
 isRefused c (counted a b) = false
 isRefused c (answers a) = false
+isRefused c (coded z ks) = false
 isRefused c (refused d) = eqb c d
 
 abbrev pub isIdle : Answer → Bool
@@ -51,6 +62,7 @@ abbrev pub isNothing : Result → Bool
 isNothing (done x) = false
 isNothing (counted a b) = false
 isNothing (answers a) = isIdle a
+isNothing (coded z ks) = false
 isNothing (refused c) = false
 
 abbrev pub showsVector : ℕ → Answer → Bool
@@ -62,6 +74,7 @@ abbrev pub isPresented : ℕ → Result → Bool
 isPresented v (done x) = false
 isPresented v (counted a b) = false
 isPresented v (answers a) = showsVector v a
+isPresented v (coded z ks) = false
 isPresented v (refused c) = false
 
 -- ---- what the cases start from

@@ -14,7 +14,7 @@ use Rattle.model.specs.State.{isActive, isLeaving, isInFlight, vcpuAt}
 use Rattle.vector_set.specs.Sets.{isVector}
 use Rattle.model.specs.Registers.{within, kindOf}
 use Rattle.model.specs.Ipi.{icrLegal}
-use Rattle.model.specs.Events.{Act, notice, call, entry, nonDelivery, handBack, Bytes, Event, lends}
+use Rattle.model.specs.Events.{Act, notice, call, entry, nonDelivery, handBack, allow, Bytes, Event}
 
 -- a cause: its code, and whether it holds
 pub data Cause : Type 0 where
@@ -32,6 +32,7 @@ isHandBack (call op c x) = false
 isHandBack (entry iF sh bl) = false
 isHandBack nonDelivery = false
 isHandBack (handBack p iF sh) = true
+isHandBack (allow cs q) = false
 
 abbrev pub isNonDelivery : {P : Type 0} → Act P → Bool
 isNonDelivery (notice p) = false
@@ -39,11 +40,25 @@ isNonDelivery (call op c x) = false
 isNonDelivery (entry iF sh bl) = false
 isNonDelivery nonDelivery = true
 isNonDelivery (handBack p iF sh) = false
+isNonDelivery (allow cs q) = false
 
--- the page that there may be is short
-abbrev pub short : Option Bytes → Bool
-short none = false
-short (some p) = ltb (length p) 256
+-- it has a page, and that is short (11.2)
+abbrev pub isShort : Act Bytes → Bool
+isShort (notice p) = ltb (length p) 256
+isShort (call op c x) = false
+isShort (entry iF sh bl) = false
+isShort nonDelivery = false
+isShort (handBack p iF sh) = ltb (length p) 256
+isShort (allow cs q) = false
+
+-- it is a list of more than 256 values, or one whose second list is shorter (11.21)
+abbrev pub isBadList : Act Bytes → Bool
+isBadList (notice p) = false
+isBadList (call op c x) = false
+isBadList (entry iF sh bl) = false
+isBadList nonDelivery = false
+isBadList (handBack p iF sh) = false
+isBadList (allow cs q) = ltb 256 (length cs) || ltb (length q) (length cs)
 
 -- ---- of a guest call: its number, ECX and RDX
 abbrev pub namesRegister : ℕ → Bool
@@ -115,19 +130,21 @@ numberCauses k (call op c x) = callCauses k op c x
 numberCauses k (entry iF sh bl) = []
 numberCauses k nonDelivery = []
 numberCauses k (handBack p iF sh) = []
+numberCauses k (allow cs q) = []
 
 -- ---- all of them, in order
 -- the module has a vCPU of that number: n is at most 32, L is 1 to 3, and the number is below n (2.15, 11.1)
 abbrev pub hasVcpu : Module → ℕ → Bool
 hasVcpu m i = leb (m .n) 32 && within 1 3 (m .vmpl) && ltb i (m .n)
 
--- of an event on a module value (11.1 to 11.4, 11.6, 11.12)
+-- of an event on a module value (11.1 to 11.4, 11.6, 11.12, 11.21, 11.22)
 unfoldable pub causes : Module → Event → List Cause
 causes m e =
     cause 1 (not (hasVcpu m (e .vcpu)))
     ∷ cause 0x80000001 (not (isHandBack (e .act)) && not (isActive (vcpuAt m (e .vcpu) .phase)))
     ∷ cause 3 (isHandBack (e .act) && not (isLeaving (vcpuAt m (e .vcpu) .phase)))
-    ∷ cause 2 (short (lends (e .act)))
+    ∷ cause 6 (isBadList (e .act))
+    ∷ cause 2 (isShort (e .act))
     ∷ cause 4 (isNonDelivery (e .act) && not (isInFlight (vcpuAt m (e .vcpu) .flight)))
     ∷ numberCauses (m .registrations) (e .act)
 

@@ -1,4 +1,4 @@
--- Demand 2: the gate is what kernels expect (13.6 to 13.18, 13.35 to 13.66). That each event's result, module and page are those of
+-- Demand 2: the gate is what kernels expect (13.6 to 13.18, 13.35 to 13.66, 13.70 to 13.73). That each event's result, module and page are those of
 -- `step` and `start` is said by the functions' contracts; here is what else is claimed of them.
 -- Assumes nothing.
 use mathlib.Core.Path.{_≡_}
@@ -7,19 +7,20 @@ use mathlib.Core.List.{List, map}
 use mathlib.Core.Option.{none, some}
 use Prim.Native.Nat.{ℕ, _+_, _%_, _^_, _<_, _≤_}
 use lib.Bits.{bitOr}
-use lib.Dec.{eqb}
+use lib.Dec.{ltb, eqb}
+use lib.ListN.{length, getD}
 use Rattle.model.specs.declared.Item.{Item}
 use Rattle.model.specs.declared.Item.the-variants.{MachineCheck, Vector}
 use Rattle.model.specs.declared.InFlight.the-variants.{Nothing}
 use Rattle.model.specs.declared.Vcpu.{Vcpu}
 use Rattle.model.specs.declared.Module.{Module}
 use Rattle.model.specs.State.{isActive, size, vcpuAt, start, withVcpu, withIrrLevel, withMachineCheck, withIcr, withFlight}
-use Rattle.model.specs.Codes.{Answer, presents, done, counted, answers, presentedIn}
+use Rattle.model.specs.Codes.{Answer, presents, done, counted, answers, coded, codeIn, presentedIn}
 use Rattle.model.specs.Items.{InRange, hasMark, isItem, itemCount, itemInFlight, flightOf, pending, unmarkAll}
 use Rattle.model.specs.Doorbell.{bitOf, announces, descriptor, mapBits, announcingBit, Part, isLevel, inPart, admitted, items}
 use Rattle.model.specs.Registers.{within}
 use Rattle.model.specs.Ipi.{icrLegal, icrItem, icrTarget, hits}
-use Rattle.model.specs.Events.{Act, notice, call, entry, nonDelivery, handBack, at, Bytes, Event, step, next, final}
+use Rattle.model.specs.Events.{Act, notice, call, entry, nonDelivery, handBack, allow, at, Bytes, Event, Out, step, next, run, final}
 use Rattle.model.specs.Causes.{isHandBack}
 use Rattle.model.specs.Reached.{Sound}
 use Rattle.vector_set.specs.Bits.{bitAt}
@@ -89,19 +90,30 @@ isCall (call op c x) = true
 isCall (entry iF sh bl) = false
 isCall nonDelivery = false
 isCall (handBack p iF sh) = false
+isCall (allow cs q) = false
 
 -- a module with no machine check pending
 unfoldable pub withoutMachineChecks : Module → Module
 withoutMachineChecks m = record { n = m .n; vmpl = m .vmpl; registrations = m .registrations; vcpus = map (withMachineCheck false) (m .vcpus) }
 
+-- ---- a list of ECX values
+-- call 4 by the vCPU i with each of them, and RDX x (13.70)
+abbrev pub singles : ℕ → ℕ → List ℕ → List Event
+singles i x cs = map (λ c. at i (call 4 c x)) cs
+
+-- the code of each event of a list (13.71)
+abbrev pub codesOf : Module → List Event → List ℕ
+codesOf m es = map (λ (o : Out). codeIn (o .result)) (run m es)
+
 -- ---- the claim
--- a request: a notice, or a guest call, which may be an IPI
+-- a request: a notice, a guest call, which may be an IPI, or a list of them
 abbrev pub isRequest : Act Bytes → Bool
 isRequest (notice p) = true
 isRequest (call op c x) = true
 isRequest (entry iF sh bl) = false
 isRequest nonDelivery = false
 isRequest (handBack p iF sh) = false
+isRequest (allow cs q) = true
 
 pub record Demand2 : Type 0 where
   pub reached : (n l : ℕ) (es : List Event) (i : ℕ) → Sound (vcpuAt (final (start n l) es) i)
@@ -207,3 +219,13 @@ pub record Demand2 : Type 0 where
   -- of every module value: an accepted call 4 puts its vector into A or takes it out, by bit 8, and no other (13.65)
   pub callPermits : (m : Module) (i c x r y : ℕ) → y < 256 → step m (at i (call 4 c x)) .result ≡ done r
       → has (vcpuAt (next m (at i (call 4 c x))) i .allowed) y ≡ cond (eqb y (c % 256)) (bitAt c 8) (has (vcpuAt m i .allowed) y)
+  -- of every module value: a list whose lengths fit leaves the module that its single calls leave, whatever their RDX (13.70)
+  pub listIsCalls : (m : Module) (i x : ℕ) (cs : List ℕ) (q : Bytes) → length cs ≤ 256 → length cs ≤ length q
+      → next m (at i (allow cs q)) ≡ final m (singles i x cs)
+  -- an accepted one gives 0 and the codes of those calls (13.71)
+  pub listCodes : (m : Module) (i x : ℕ) (cs : List ℕ) (q : Bytes) (r : ℕ) (ks : List ℕ) → step m (at i (allow cs q)) .result ≡ coded r ks
+      → (r ≡ 0) × (ks ≡ codesOf m (singles i x cs))
+  -- its second list keeps its length, and has a code at the place of each value and at every other place what it had (13.72)
+  pub listWrites : (m : Module) (i : ℕ) (cs : List ℕ) (q : Bytes) (r : ℕ) (ks : List ℕ) → step m (at i (allow cs q)) .result ≡ coded r ks
+      → (length (step m (at i (allow cs q)) .page) ≡ length q)
+      × ((j : ℕ) → getD (step m (at i (allow cs q)) .page) j 0 ≡ cond (ltb j (length cs)) (getD ks j 0) (getD q j 0))

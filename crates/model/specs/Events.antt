@@ -1,15 +1,16 @@
 -- The events, and what each gives from every module value (sections 4 to 11).
 -- Assumes nothing.
 use mathlib.Core.Bool.{Bool, cond, not, _&&_, _||_}
-use mathlib.Core.List.{List, [], _∷_}
+use mathlib.Core.List.{List, [], _∷_, _++_}
 use mathlib.Core.Option.{Option, none, some, Option·getD}
 use Prim.Native.Nat.{ℕ, _+_, _*_}
 use lib.Dec.{leb, ltb, eqb}
+use lib.ListN.{length, drop, take}
 use Rattle.model.specs.declared.Phase.the-variants.{Left}
 use Rattle.model.specs.declared.Item.{Item}
 use Rattle.model.specs.declared.Item.the-variants.{Nmi, MachineCheck, Vector}
 use Rattle.model.specs.declared.Refusal.{Refusal}
-use Rattle.model.specs.declared.Refusal.the-variants.{UnknownVcpu, ShortPage, NotLeaving, NothingInFlight, BadStart, NotActive}
+use Rattle.model.specs.declared.Refusal.the-variants.{UnknownVcpu, ShortPage, NotLeaving, NothingInFlight, BadStart, NotActive, BadList}
 use Rattle.model.specs.declared.Request.{Request}
 use Rattle.model.specs.declared.Request.the-variants as request
 use Rattle.model.specs.declared.Vcpu.{Vcpu}
@@ -19,8 +20,8 @@ use Rattle.model.specs.declared.Noticed.{Noticed}
 use Rattle.model.specs.declared.Entered.{Entered}
 use Rattle.model.specs.State.{isActive, isLeaving, isInFlight, size, vcpuAt, mayStart, start, withVcpu, withRegistrations}
 use Rattle.model.specs.State.{withAllowed, withIsr, withIrrLevel, withIsrLevel, withIcr, withPhase, withFlight}
-use Rattle.model.specs.Codes.{codeOf, Verdict, accept, refuse, need, Answer, nothing, presents, window}
-use Rattle.model.specs.Codes.{Result, done, counted, answers, refused, resultOf, admissionResult, presentedResult}
+use Rattle.model.specs.Codes.{codeOf, Verdict, accept, refuse, need, verdictCode, Answer, nothing, presents, window}
+use Rattle.model.specs.Codes.{Result, done, counted, answers, coded, refused, resultOf, admissionResult, presentedResult, listResult}
 use Rattle.model.specs.Items.{itemCount, itemInFlight, flightOf, pending, mark, unmark, markAll, unmarkAll}
 use Rattle.model.specs.Doorbell.{longEnough, Part, isLevel, inPart, admitted, noticedPage, handedBytes, written}
 use Rattle.model.specs.Registers.{class, ppr}
@@ -30,7 +31,8 @@ use Rattle.vector_set.specs.Bits.{one}
 use Rattle.vector_set.specs.Sets.{has, collect, empty, insert, remove, highest}
 
 -- ---- events: an act on a vCPU
--- P is what is known of a page: its bytes in an event, its length in what the book is fed (1.3, 4.1, 5.1, 8.1, 9.1, 10.1)
+-- P is what is known of what is lent to be written, a page or a second list: its bytes or entries in an event, its length in what the book is fed
+-- (1.3, 4.1, 5.1, 5.26, 8.1, 9.1, 10.1)
 pub data Act (P : Type 0) : Type 0 where
   -- page
   notice : P → Act P
@@ -41,6 +43,8 @@ pub data Act (P : Type 0) : Type 0 where
   nonDelivery : Act P
   -- page, IF, shadow
   handBack : P → Bool → Bool → Act P
+  -- ECX values, second list
+  allow : List ℕ → P → Act P
 
 pub record On (P : Type 0) : Type 0 where
   pub vcpu : ℕ
@@ -55,15 +59,16 @@ Bytes = List ℕ
 abbrev pub Event : Type 0
 Event = On Bytes
 
--- the page that an act lends, if it does
+-- what an act lends to be written, if it does
 abbrev pub lends : {P : Type 0} → Act P → Option P
 lends (notice p) = some p
 lends (call op c x) = none
 lends (entry iF sh bl) = none
 lends nonDelivery = none
 lends (handBack p iF sh) = some p
+lends (allow cs q) = some q
 
--- its bytes, or none
+-- its bytes or entries, or none
 abbrev pub pageOf : Act Bytes → Bytes
 pageOf a = Option·getD (lends a) []
 
@@ -136,13 +141,18 @@ unfoldable pub handBackResult : ℕ → ℕ → Bool → Bool → ℕ
 handBackResult l tpr iF sh = l * 65536 + tpr * 256 + 2 * one sh + one iF
 
 -- ---- whether an event is accepted
--- for the vCPU i below n with the record v, at the count k (4.2, 5.2, 8.2, 9.2, 10.2, 11.13 to 11.18)
+-- at most 256 values, and a second list that is as long or longer (5.26, 11.21)
+abbrev pub listFits : List ℕ → List ℕ → Bool
+listFits cs q = leb (length cs) 256 && leb (length cs) (length q)
+
+-- for the vCPU i below n with the record v, at the count k (4.2, 5.2, 5.31, 8.2, 9.2, 10.2, 11.13 to 11.18, 11.22)
 unfoldable pub vcpuVerdict : ℕ → ℕ → Vcpu → Act Bytes → Verdict
 vcpuVerdict i k v (notice p) = need (isActive (v .phase)) NotActive (need (longEnough p) ShortPage accept)
 vcpuVerdict i k v (call op c x) = need (isActive (v .phase)) NotActive (callVerdict (requestOf op c x) i k (forget v))
 vcpuVerdict i k v (entry iF sh bl) = need (isActive (v .phase)) NotActive accept
 vcpuVerdict i k v nonDelivery = need (isActive (v .phase)) NotActive (need (isInFlight (v .flight)) NothingInFlight accept)
 vcpuVerdict i k v (handBack p iF sh) = need (isLeaving (v .phase)) NotLeaving (need (longEnough p) ShortPage accept)
+vcpuVerdict i k v (allow cs q) = need (isActive (v .phase)) NotActive (need (listFits cs q) BadList accept)
 
 -- the vCPU number before all else (11.1, 11.12)
 unfoldable pub verdict : Module → Event → Verdict
@@ -154,7 +164,7 @@ pub data Reply : Type 0 where
   gives : Result → Reply
   sends : ℕ → Reply
 
--- with its vCPU's record, the count and the page after it
+-- with its vCPU's record, the count and the page or second list after it
 pub record Effect : Type 0 where
   pub reply : Reply
   pub vcpu : Vcpu
@@ -173,7 +183,32 @@ callEffect (request.Local o) i k v =
 callEffect (request.Icr x) i k v = record { reply = sends x; vcpu = withIcr x (forget v); registrations = k; page = [] }
 callEffect (request.Refused c) i k v = record { reply = gives (refused (codeOf c)); vcpu = v; registrations = k; page = [] }
 
--- at the VMPL l, on the record v of the vCPU i, at the count k. An entry too first forgets what was in flight (4.29, 4.37, 8.3, 9.7, 10.12)
+-- ---- a list of ECX values: call 4 with each of them, one after the other
+-- call 4 with ECX c; RDX has no part in it (5.15, 5.27)
+abbrev pub single : ℕ → Act Bytes
+single c = call 4 c 0
+
+-- u where a verdict accepts, v where it refuses (11.19)
+abbrev pub byVerdict : Verdict → Vcpu → Vcpu → Vcpu
+byVerdict accept u v = u
+byVerdict (refuse c) u v = v
+
+-- the caller's record after one of them (5.27)
+unfoldable pub singleAfter : ℕ → ℕ → ℕ → Vcpu → Vcpu
+singleAfter i k c v = byVerdict (vcpuVerdict i k v (single c)) (callEffect (requestOf 4 c 0) i k v .vcpu) v
+
+-- after all of them: a refused one does not stop the rest (5.27, 5.28)
+unfoldable pub listAfter : ℕ → ℕ → List ℕ → Vcpu → Vcpu
+listAfter i k [] v = v
+listAfter i k (c ∷ cs) v = listAfter i k cs (singleAfter i k c v)
+
+-- the code of each (5.29)
+unfoldable pub listCodes : ℕ → ℕ → List ℕ → Vcpu → List ℕ
+listCodes i k [] v = []
+listCodes i k (c ∷ cs) v = verdictCode (vcpuVerdict i k v (single c)) ∷ listCodes i k cs (singleAfter i k c v)
+
+-- ---- what each event gives
+-- at the VMPL l, on the record v of the vCPU i, at the count k. An entry too first forgets what was in flight (4.29, 4.37, 5.29, 5.30, 8.3, 9.7, 10.12)
 unfoldable pub effect : ℕ → ℕ → ℕ → Vcpu → Act Bytes → Effect
 effect l i k v (notice p) =
     record {
@@ -193,6 +228,13 @@ effect l i k v (handBack p iF sh) =
       vcpu = emptied v;
       registrations = k;
       page = written l (handed v) p;
+    }
+effect l i k v (allow cs q) =
+    record {
+      reply = gives (coded 0 (listCodes i k cs v));
+      vcpu = listAfter i k cs v;
+      registrations = k;
+      page = listCodes i k cs v ++ drop (length cs) q;
     }
 
 abbrev pub effectOf : Module → Event → Effect
@@ -255,6 +297,10 @@ noticedOut r p = record { result = admissionResult (r .admission); after = r .af
 
 abbrev pub enteredOut : Entered → Out
 enteredOut r = record { result = presentedResult (r .presentation); after = r .after; page = [] }
+
+-- of the ECX values cs, with the second list q after it
+abbrev pub listedOut : Stepped → List ℕ → List ℕ → Out
+listedOut r cs q = record { result = listResult (r .outcome) (take (length cs) q); after = r .after; page = q }
 
 -- ---- a list of events, played one after the other
 -- what each event of a list gives (12.3)

@@ -16,7 +16,7 @@ use Rattle.vector_set.specs.Sets.{empty, full, insert}
 use Rattle.model.specs.Items.{sameItem}
 use Rattle.model.specs.State.{vcpuAt, start, withVcpu, withAllowed, withIrr, withIsr, withIrrLevel, withIsrLevel, withNmi, withMachineCheck}
 use Rattle.model.specs.State.{withTpr, withPhase}
-use Rattle.model.specs.Codes.{Answer, nothing, presents, window, Result, done, counted, answers, refused}
+use Rattle.model.specs.Codes.{Answer, nothing, presents, window, Result, done, counted, answers, coded, refused}
 use Rattle.model.specs.Registers.{kindOf}
 use Rattle.model.specs.Causes.{isKindNone, isKindRead, isKindWrite}
 use Rattle.model.specs.declared.Kind.{Kind}
@@ -84,6 +84,7 @@ abbrev pub answersBy : (Answer → Bool) → Result → Bool
 answersBy t (done x) = false
 answersBy t (counted a b) = false
 answersBy t (answers a) = t a
+answersBy t (coded z ks) = false
 answersBy t (refused c) = false
 
 abbrev pub enters : Bool → Bool → Bool → Event

@@ -79,6 +79,7 @@ pub enum Refusal {
     BadParameter,
     RegistrationsFull,
     NotRegistered,
+    BadList,
 }
 
 // A guest call that touches the caller's record and the registration count alone.
@@ -102,7 +103,7 @@ pub enum Request {
     Refused(Refusal),
 }
 
-// The answer of start, a guest call, a non-delivery or a hand-back.
+// The answer of start, a guest call, a non-delivery, a hand-back or a list of ECX values.
 pub enum Outcome {
     Done(u64),
     Refused(Refusal),

@@ -13,7 +13,7 @@ use model::Request;
 pub mod kinds;
 
 // The bit of ECX by which call 4 allows the vector, and does not take it out (5.16).
-const ALLOW_BIT: u32 = 8;
+pub const ALLOW_BIT: u32 = 8;
 
 fn bad() -> Request
     ensures { λ r. ⌜ r ≡ Request.Refused Refusal.BadParameter ⌝ }
@@ -97,7 +97,7 @@ fn write_of(r: u32, x: u64) -> Request
 }
 
 // A vector that call 4 may name, and no bit above 8 (5.17).
-fn is_nameable(ecx: u32) -> bool
+pub fn is_nameable(ecx: u32) -> bool
     ensures { λ r. ⌜ r ≡ nameable ecx ⌝ }
 {
     let v = ecx % 256;

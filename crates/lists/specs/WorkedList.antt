@@ -1,4 +1,4 @@
--- Worked lists (14.41, 14.44, 14.45, 14.70): their results, their pages, their notices struck out, their tallies and what they admit.
+-- Worked lists (14.41, 14.44, 14.45, 14.70, 14.80): their results, their pages, their notices struck out, their tallies and what they admit.
 -- Assumes nothing.
 use mathlib.Core.Path.{_≡_}
 use mathlib.Core.Bool.{Bool, true, false, _&&_}
@@ -13,7 +13,7 @@ use Rattle.model.specs.State.{start}
 use Rattle.model.specs.Codes.{Answer, nothing, presents, window, Result, done, counted, answers, coded, refused}
 use Rattle.model.specs.Items.{isItem}
 use Rattle.model.specs.Doorbell.{items}
-use Rattle.model.specs.Events.{notice, call, entry, nonDelivery, handBack, at, Event}
+use Rattle.model.specs.Events.{notice, call, entry, nonDelivery, handBack, allow, at, Event}
 use Rattle.model.specs.Cases.{sameNumbers, gives, givesCodes, counts, isRefused, isIdle, zeros, announcing, byte64, every}
 use Rattle.model.specs.Worked.{eoi, icr, isShown, isWindow, answersBy, enters}
 use Rattle.lists.specs.Book.{bookOf, parts}
@@ -169,6 +169,40 @@ checked =
     ∷ sameNumbers (map items (parts 1 (bookOf (start 1 1)) checkStory)) (0 ∷ 1 ∷ 1 ∷ 0 ∷ 0 ∷ 0 ∷ 1 ∷ 0 ∷ 0 ∷ 0 ∷ 0 ∷ 0 ∷ [])
     ∷ []
 
+-- ---- lists of ECX values among other events (14.80)
+-- 0x41 in, 30, the NMI's member in
+abbrev valueStory : List Event
+valueStory =
+    at 0 (allow (0x141 ∷ 0x11E ∷ 0x102 ∷ []) (9 ∷ 9 ∷ 9 ∷ 9 ∷ []))
+    ∷ at 0 (notice byte64)
+    ∷ enters true false false
+    ∷ at 0 (allow (0x11E ∷ []) (9 ∷ []))
+    ∷ at 0 nonDelivery
+    ∷ enters true false false
+    ∷ at 0 (allow (0x11E ∷ 0x041 ∷ []) (9 ∷ 9 ∷ []))
+    ∷ at 0 nonDelivery
+    ∷ at 0 (notice byte64)
+    ∷ at 0 (allow (0x141 ∷ 0x152 ∷ []) (9 ∷ []))
+    ∷ at 0 (notice byte64)
+    ∷ at 0 (notice (set announcing 65 0x01))
+    ∷ at 1 (allow (0x141 ∷ []) [])
+    ∷ at 0 (call 1 1 0)
+    ∷ at 0 (allow (0x141 ∷ []) [])
+    ∷ at 0 (handBack zeros true false)
+    ∷ []
+
+unfoldable pub valued : List Bool
+valued =
+    sameResults (results (start 1 1) valueStory)
+    (coded 0 (0 ∷ 0x80000005 ∷ 0 ∷ []) ∷ counted 1 0 ∷ shown41 ∷ coded 0 (0x80000005 ∷ []) ∷ done 0 ∷ shown41 ∷ coded 0 (0x80000005 ∷ 0 ∷ [])
+    ∷ refused 4 ∷ counted 0 0 ∷ refused 6 ∷ counted 0 0 ∷ counted 1 0 ∷ refused 1 ∷ done 0 ∷ refused 0x80000001 ∷ done 65537 ∷ [])
+    ∷ samePages (pages (start 1 1) valueStory) (set (set zeros 65 0x01) 104 0x02 ∷ [])
+    ∷ eqb (length (struck valueStory)) 12
+    ∷ tellsOf (start 1 1) valueStory 0 (item.Vector 0x41) (2 ∷ 1 ∷ 0 ∷ 1 ∷ [])
+    ∷ tellsOf (start 1 1) valueStory 0 item.Nmi (0 ∷ 1 ∷ 0 ∷ 0 ∷ [])
+    ∷ sameNumbers (map items (parts 1 (bookOf (start 1 1)) valueStory)) (0 ∷ 1 ∷ 0 ∷ 0 ∷ 0 ∷ 0 ∷ 0 ∷ 0 ∷ 0 ∷ 0 ∷ 0 ∷ 1 ∷ 0 ∷ 0 ∷ 0 ∷ 0 ∷ [])
+    ∷ []
+
 -- ---- a notice of 0x41 before and after it is allowed (14.45): how many items each event admits by the book
 unfoldable pub judged : List ℕ
 judged = map items (parts 1 (bookOf (start 1 1)) (at 0 (notice byte64) ∷ at 0 (call 4 0x141 0) ∷ at 0 (notice byte64) ∷ []))
@@ -178,6 +212,7 @@ pub record WorkedList : Type 0 where
   pub listed : every listed ≡ true
   pub paired : every paired ≡ true
   pub checked : every checked ≡ true
+  pub valued : every valued ≡ true
   pub judged : sameNumbers judged (0 ∷ 0 ∷ 1 ∷ []) ≡ true
   -- two lists that differ in bytes of two notices, on two vCPUs and one of them short, are alike
   pub different : AllAlike (at 0 (notice byte64) ∷ eoi ∷ at 1 (notice (1 ∷ [])) ∷ []) (at 0 (notice zeros) ∷ eoi ∷ at 1 (notice (0 ∷ [])) ∷ [])

@@ -11,14 +11,15 @@ use Rattle.model.specs.Doorbell.{admitted, items, clearsBit, clears, not
 use Rattle.model.specs.Registers.{isRead, isWrite, isBoth, kindOf, pprOf, ppr, ldr, tmr, registerValue, endedAt, ended, endedLevelAt, endedLevel}
 use Rattle.model.specs.Requests.{registration, writeValue, nameable, permission, requestOf, serve, callVerdict}
 use Rattle.model.specs.Events.{noticed, itemsNew, itemsMerged, offerHighest, offer, present, entered, emptied, handed, handBackResult}
-use Rattle.model.specs.Events.{vcpuVerdict, verdict, callEffect, effect, concluded, step, giveBack, undelivered}
+use Rattle.model.specs.Events.{vcpuVerdict, verdict, callEffect, singleAfter, listAfter, listCodes, effect, concluded, step, giveBack, undelivered}
 use Rattle.model.specs.Cases.{cases, Starred}
 use Rattle.model.specs.Worked.{further, Worked}
 use Rattle.model.specs.WorkedChecks.{checks, WorkedChecks}
+use Rattle.model.specs.WorkedValues.{values, WorkedValues}
 use Rattle.model.specs.Ipi.{icrReservedClear, icrIsFixed, icrIsNmi, icrLegal, icrItem, icrTarget, hits, reach, mapFrom, sent, newBits}
 
-both : Worked × WorkedChecks
-unfolding Starred cases further checks giveBack undelivered icrReservedClear icrIsFixed icrIsNmi icrLegal icrItem
+all : Worked × WorkedChecks × WorkedValues
+unfolding Starred cases further checks values singleAfter listAfter listCodes giveBack undelivered icrReservedClear icrIsFixed icrIsNmi icrLegal icrItem
     icrTarget hits reach mapFrom sent newBits itemCount itemsNew itemsMerged bits has words collect empty full insert remove union difference
     highestBelow highest countBelow count isEmpty wordOf bare size vcpuAt started start stopped withVcpu withRegistrations mark unmark markAll
     unmarkAll bitOf bytesFrom mapBits
@@ -26,10 +27,13 @@ unfolding Starred cases further checks giveBack undelivered icrReservedClear icr
     written isRead isWrite isBoth kindOf pprOf ppr ldr tmr registerValue endedAt ended endedLevelAt endedLevel registration writeValue nameable
     permission requestOf serve callVerdict noticed offerHighest offer present entered emptied handed handBackResult vcpuVerdict verdict callEffect
     effect concluded step
-both = (record { starred = refl; further = refl }, record { checks = refl; nmi = tt; machineCheck = tt })
+all = (record { starred = refl; further = refl }, record { checks = refl; nmi = tt; machineCheck = tt }, record { values = refl })
 
 pub worked : Worked
-worked = both .0
+worked = all .0
 
 pub worked-checks : WorkedChecks
-worked-checks = both .1
+worked-checks = all .1
+
+pub worked-values : WorkedValues
+worked-values = all .2

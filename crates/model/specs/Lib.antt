@@ -13,3 +13,4 @@ pub mod Demand2
 pub mod Cases
 pub mod Worked
 pub mod WorkedChecks
+pub mod WorkedValues

@@ -155,7 +155,7 @@ stays-effect x b l i k v (entry iF sh bl) q = clash (cc)
 stays-effect x b l i k v nonDelivery q = clash (cc)
 stays-effect x b l i k v (handBack p iF sh) q = clash (cc)
 stays-effect x b l i k v (allow cs p) q =
-    after-each (On (InLevel x)) i k (λ c u. kept-call (InLevel x) (in-level-marks x) (requestOf 4 c 0) i k u) cs v
+    after-each (On (InLevel x)) i k (λ c u. kept-call (InLevel x) (in-level-marks x) (requestOf 4 c 0) i k u) _ _
 
 pub keeps-level : (m : Module) (e : Event) (j x : ℕ) → x < 256 → isRequest (e .act) ≡ true → Stays x (vcpuAt m j) (vcpuAt (next m e) j)
 unfolding concluded

@@ -254,4 +254,4 @@ sound-effect l i k v (entry iF sh bl) on h = sound-entered (offer iF sh bl v) v 
 sound-effect l i k v nonDelivery on h = sound-undelivered (itemInFlight (v .flight)) v (returned-flying v h) h
 sound-effect l i k v (handBack p iF sh) on h = sound-emptied v on h
 sound-effect l i k v (allow cs q) on h =
-    after-each Sound i k (λ c u. sound-call (requestOf 4 c 0) i k u (fitting-request 4 c 0)) cs v h
+    after-each Sound i k (λ c u. sound-call (requestOf 4 c 0) i k u (fitting-request 4 c 0)) _ v h

@@ -21,7 +21,7 @@ use Rattle.vcpu_allow.specs.Values.{permittedAll, someNameable, fitsList
 module _ (xs ys : List ℕ) where
   pub too-many : 256 < length xs → fitsList xs ys ≡ false
   unfolding fitsList
-  too-many h = ap (λ (b : Bool). b && leb (length xs) (length ys)) (lt-leb (length xs) 256 h)
+  too-many h = rw (lt-leb (length xs) 256 h)
 
   pub no-room : length ys < length xs → fitsList xs ys ≡ false
   unfolding fitsList

@@ -22,7 +22,7 @@ use Rattle.vcpu_allow.specs.Values.{valueCode, permitted, permittedAll, 
 module _ (c : ℕ) (s : List ℕ) where
   pub value-refused : (r : ℕ) → nameable c ≡ false → r ≡ codeOf BadParameter → (r ≡ valueCode c) × (s ≡ permitted c s)
   unfolding valueCode permitted
-  value-refused r e f = (rw e f, rw e)
+  value-refused r e f = (rw e f, sym (ap (λ (b : Bool). cond b (cond (bitAt c 8) (insert (c % 256) s) (remove (c % 256) s)) s) e))
 
   pub value-in : nameable c ≡ true → bitAt c 8 ≡ true → Words s
       → (0 ≡ valueCode c) × (set s (c % 256 / 32) (bitOr (getD s (c % 256 / 32) 0) ((1 * 2 ^ (c % 256 % 32)) % 2 ^ 32)) ≡ permitted c s)

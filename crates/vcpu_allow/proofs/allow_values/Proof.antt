@@ -26,14 +26,14 @@ returns-2 c =
     let ys = a .codes .now in
     list-refused xs ys (a .allowed) (c .refused2 .result) BadList
     (bad-list (a .phase) xs ys (ap isActive (e .enum-told .given .1))
-    (⊎-elim (λ w. too-many xs ys (omega (arith, w .taken))) (λ w. no-room xs ys (ltb-true _ _ (w .1 .taken))) (c .before .if1 .came)))
+    (⊎-elim (λ w. too-many xs ys (omega arith)) (λ w. no-room xs ys (omega (arith, ltb-true))) (c .before .if1 .came)))
     (c .refused2 .ensures)
 
 permit-all-requires : tie.Need-permit-all-requires
 permit-all-requires c κs =
     let b = c .before .before in
     let s = b .before .before .before .before .before .before in (
-      ltb-false _ _ (b .if2 .left),
+      omega (arith, ltb-false),
       array-words (s .args .allowed) _ (s .good .1 .1 .1 .0),
     )
 
@@ -46,7 +46,7 @@ returns-3 c =
     let xs = a .values .now in
     let ys = a .codes .now in
     list-done xs ys (a .allowed) (p .permit-all .result) (p .permit-all .last .1 .0) (p .permit-all .last .1 .1 .0)
-    (right (a .phase) xs ys (ap isActive (e .enum-told .given .1)) (fits xs ys (omega (arith, b .before .if1 .left)) (ltb-false _ _ (b .if2 .left))))
+    (right (a .phase) xs ys (ap isActive (e .enum-told .given .1)) (fits xs ys (omega arith) (omega (arith, ltb-false))))
     (p .permit-all .ensures .0) (p .permit-all .ensures .1) (p .permit-all .ensures .2)
 
 pub allow-values-spec : {M : Type 1} → statement M

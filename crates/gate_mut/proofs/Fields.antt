@@ -1,11 +1,13 @@
 -- A field of a record in place, and a word of a set of one: `m.vcpus[i].nmi`, `m.vcpus[i].irr[w]`. The record is not copied. It says nothing of any function.
 --     hand, in-hand           the module h with the record u at i, as stores in a row keep it: they do not nest; a module is in hand with its own record
 --     part-of                 field k of record i is read
---     SetField                one of its sets: irr, irr-level.        machS     a set's machine value, and what is said of it (field-set, set-typed)
+--     SetField                one of its sets: irr, irr-level
+--     machS                   a set's machine value, and what is said of it (field-set, field-set-at, set-typed, read-set)
 --     set-of                  the address of a set
 --     word-on, nmi-on, part-on        of the record in hand, word w of a set, the NMI mark and any field are read
---     MarkField               one of its marks: nmi-mark, check-mark
---     puts-word, puts-mark, puts-irr   a word, a mark and the set irr are written
+--     WholeField              a field that is stored as a whole: nmi-mark, check-mark, irr-set, allowed-set, in-flight
+--     machF                   what is in flight, as a machine value
+--     puts-word, puts-field   a word and such a field are written
 -- Assumes `Given`.
 use mathlib.Core.Path.{_≡_, refl, sym, ap, _∙_, subst}
 use Prim.Native.Nat.{ℕ, zero, _+_, _*_, _<_, _^_}
@@ -36,12 +38,16 @@ use denote.Plain.{UInt, uint-out, uint-in, uint-lawful}
 use denote.Array.{Array, arrayVal, array-lawful}
 use denote.ArrayMemory.{Single, array-apart, array-whole}
 use denote.Index.{place, place-is, others, takes, puts, row}
+use denote.Enum.Laws as EL
 use denote.Struct.Laws as LL
 use borrow.Struct.Behind.{put-at}
 use borrow.Struct.Items.{cut-array}
-use Rattle.model.specs.State.{vcpuAt, withVcpu, withIrr, withIrrLevel, withNmi, withMachineCheck}
+use Rattle.model.specs.State.{vcpuAt, withVcpu, withAllowed, withIrr, withIrrLevel, withNmi, withMachineCheck, withFlight}
+use Rattle.model.specs.declared.InFlight.{InFlight}
 use Rattle.model.specs.declared.Module.{Module}
 use Rattle.model.specs.declared.Vcpu.{Vcpu}
+use Rattle.model.proofs.InFlight as F
+use Rattle.model.proofs.InFlight.Laws as F′
 use Rattle.model.proofs.Module as T
 use Rattle.model.proofs.Vcpu as R
 use Rattle.model.proofs.Vcpu.Laws as R′
@@ -103,6 +109,14 @@ set-typed 𝓤 H A W s is = array-lawful 𝓤 H A W u32 (uint-lawful 𝓤 H A W 
 
 pub field-set : (s : List ℕ) → Is (Array u32 8) (map (λ (x : ℕ). x) s) (machS (map (λ (x : ℕ). x) s) ∷ []) → Is (Array u32 8) s (machS s ∷ [])
 field-set s is = subst (λ (xs : List ℕ). Is (Array u32 8) xs (machS xs ∷ [])) (map-id s) is
+
+pub field-set-at : (s : List ℕ) (vs : List Val) → Is (Array u32 8) (map (λ (x : ℕ). x) s) vs → Is (Array u32 8) s vs
+field-set-at s vs is = subst (λ (xs : List ℕ). Is (Array u32 8) xs vs) (map-id s) is
+
+-- and as it is read
+pub read-set : {M : Type 1} {𝓤 : URA M} {H : Heap 𝓤} {A : Atoms 𝓤} {K : Type 0} {W : Given 𝓤 H A} {Γ : List (Item 𝓤)} {E : Env 𝓤 H} {rv : RValue} (s : List ℕ)
+    → Rv K W Γ E rv (machS (map (λ (x : ℕ). x) s)) → Rv K W Γ E rv (machS s)
+read-set {K = K} {W} {Γ} {E} {rv} s r = subst (λ (xs : List ℕ). Rv K W Γ E rv (machS xs)) (map-id s) r
 
 -- the fields of a struct's machine value
 abbrev pub inner : Val → Vals
@@ -222,7 +236,20 @@ module _ {M : Type 1} (𝓤 : URA M) (H : Heap 𝓤) (A : Atoms 𝓤) (W : Given
           subst (λ (g : Module). Swaps 𝓤 (holding h) (number x) (number x) (holding g))
           (ap (λ (xs : List ℕ). withVcpu h i (S .put xs v)) (set-getD (S .get v) w 0) ∙ ap (withVcpu h i) (S .same v) ∙ put-same h i) (word-put x)
 
--- a record with another mark fits its type
+-- ---- a field that is stored as a whole: field k, d bytes in, of the machine type τ. `Fits` is what is to be known of the value
+pub record WholeField (X : Type 0) : Type 2 where
+  pub k : ℕ
+  pub d : ℕ
+  pub τ : Ty
+  pub at : fieldOf R′.mir k ≡ full (τ, d)
+  pub val : X → Val
+  pub Fits : X → Type 0
+  pub typed : {M : Type 1} (𝓤 : URA M) (H : Heap 𝓤) (A : Atoms 𝓤) (W : Given 𝓤 H A) (y : X) → Fits y → Holds (hasTy τ (val y)) × WT (val y)
+  pub put : X → Vcpu → Vcpu
+  pub stored : (y : X) (v : Vcpu) → vstruct (setV (inner (machV v)) k (val y)) ≡ machV (put y v)
+  pub fits : (y : X) → Fits y → (v : Vcpu) → Is R.the-row v (machV v ∷ []) → Is R.the-row (put y v) (machV (put y v) ∷ [])
+
+-- the marks
 pub nmi-fits : (y : Bool) (v : Vcpu) → Is R.the-row v (machV v ∷ []) → Is R.the-row (withNmi y v) (machV (withNmi y v) ∷ [])
 nmi-fits y v is =
     let f = LL.owed R.the-type R′.the-laws v _ is in
@@ -234,28 +261,104 @@ check-fits y v is =
     LL.owes R.the-type R′.the-laws (withMachineCheck y v)
     (f .0, (f .1 .0, (f .1 .1 .0, (f .1 .1 .1 .0, (f .1 .1 .1 .1 .0, (f .1 .1 .1 .1 .1 .0, (refl, f .1 .1 .1 .1 .1 .1 .1)))))))
 
--- a mark of a record: field k, d bytes in
-pub record MarkField : Type 0 where
-  pub k : ℕ
-  pub d : ℕ
-  pub at : fieldOf R′.mir k ≡ full (tyBool, d)
-  pub put : Bool → Vcpu → Vcpu
-  pub stored : (y : Bool) (v : Vcpu) → vstruct (setV (inner (machV v)) k (vbool y)) ≡ machV (put y v)
-  pub fits : (y : Bool) (v : Vcpu) → Is R.the-row v (machV v ∷ []) → Is R.the-row (put y v) (machV (put y v) ∷ [])
+abbrev pub nmi-mark : WholeField Bool
+nmi-mark = record {
+  k = 5;
+  d = 160;
+  τ = tyBool;
+  at = refl;
+  val = vbool;
+  Fits = λ y. Unit {0};
+  typed = λ 𝓤 H A W y so. (tt, tt);
+  put = withNmi;
+  stored = λ y v. refl;
+  fits = λ y so. nmi-fits y;
+}
 
-abbrev pub nmi-mark : MarkField
-nmi-mark = record { k = 5; d = 160; at = refl; put = withNmi; stored = λ y v. refl; fits = nmi-fits }
+abbrev pub check-mark : WholeField Bool
+check-mark = record {
+  k = 6;
+  d = 161;
+  τ = tyBool;
+  at = refl;
+  val = vbool;
+  Fits = λ y. Unit {0};
+  typed = λ 𝓤 H A W y so. (tt, tt);
+  put = withMachineCheck;
+  stored = λ y v. refl;
+  fits = λ y so. check-fits y;
+}
 
-abbrev pub check-mark : MarkField
-check-mark = record { k = 6; d = 161; at = refl; put = withMachineCheck; stored = λ y v. refl; fits = check-fits }
+-- two of the sets
+abbrev pub FitsS : List ℕ → Type 0
+FitsS ys = Is (Array u32 8) ys (machS ys ∷ [])
 
--- so does a record with another set irr
-irr-fits : (ys : List ℕ) → Is (Array u32 8) ys (machS ys ∷ []) → (v : Vcpu) → Is R.the-row v (machV v ∷ [])
-    → Is R.the-row (withIrr ys v) (machV (withIrr ys v) ∷ [])
+set-field : (ys : List ℕ) → FitsS ys → Is (Array u32 8) (map (λ (x : ℕ). x) ys) (machS (map (λ (x : ℕ). x) ys) ∷ [])
+set-field ys is = subst FitsS (sym (map-id ys)) is
+
+pub irr-fits : (ys : List ℕ) → FitsS ys → (v : Vcpu) → Is R.the-row v (machV v ∷ []) → Is R.the-row (withIrr ys v) (machV (withIrr ys v) ∷ [])
 irr-fits ys ys-is v is =
     let f = LL.owed R.the-type R′.the-laws v _ is in
-    LL.owes R.the-type R′.the-laws (withIrr ys v)
-    (f .0, (subst (λ (xs : List ℕ). Is (Array u32 8) xs (machS xs ∷ [])) (sym (map-id ys)) ys-is, f .1 .1))
+    LL.owes R.the-type R′.the-laws (withIrr ys v) (f .0, (set-field ys ys-is, f .1 .1))
+
+pub allowed-fits : (ys : List ℕ) → FitsS ys → (v : Vcpu) → Is R.the-row v (machV v ∷ []) → Is R.the-row (withAllowed ys v) (machV (withAllowed ys v) ∷ [])
+allowed-fits ys ys-is v is =
+    let f = LL.owed R.the-type R′.the-laws v _ is in
+    LL.owes R.the-type R′.the-laws (withAllowed ys v) (set-field ys ys-is, f .1)
+
+abbrev pub irr-set : WholeField (List ℕ)
+irr-set = record {
+  k = 1;
+  d = 32;
+  τ = tyArray (tyInt w32) 8;
+  at = refl;
+  val = machS;
+  Fits = FitsS;
+  typed = set-typed;
+  put = withIrr;
+  stored = λ ys v. ap (λ (xs : List ℕ). vstruct (setV (inner (machV v)) 1 (machS xs))) (sym (map-id ys));
+  fits = irr-fits;
+}
+
+abbrev pub allowed-set : WholeField (List ℕ)
+allowed-set = record {
+  k = 0;
+  d = 0;
+  τ = tyArray (tyInt w32) 8;
+  at = refl;
+  val = machS;
+  Fits = FitsS;
+  typed = set-typed;
+  put = withAllowed;
+  stored = λ ys v. ap (λ (xs : List ℕ). vstruct (setV (inner (machV v)) 0 (machS xs))) (sym (map-id ys));
+  fits = allowed-fits;
+}
+
+-- what is in flight
+abbrev pub machF : InFlight → Val
+machF = EL.val F.the-type F′.the-laws
+
+pub flight-fits : (x : InFlight) → Is F.the-row x (machF x ∷ []) → (v : Vcpu) → Is R.the-row v (machV v ∷ [])
+    → Is R.the-row (withFlight x v) (machV (withFlight x v) ∷ [])
+flight-fits x x-is v is =
+    let f = LL.owed R.the-type R′.the-laws v _ is in
+    let g = f .1 .1 .1 .1 .1 in
+    LL.owes R.the-type R′.the-laws (withFlight x v)
+    (f .0, (f .1 .0, (f .1 .1 .0, (f .1 .1 .1 .0, (f .1 .1 .1 .1 .0, (g .0, (g .1 .0, (g .1 .1 .0, (g .1 .1 .1 .0, (g .1 .1 .1 .1 .0, (x-is, tt)))))))))))
+
+abbrev pub in-flight : WholeField InFlight
+in-flight = record {
+  k = 10;
+  d = 177;
+  τ = F′.mir;
+  at = refl;
+  val = machF;
+  Fits = λ x. Is F.the-row x (machF x ∷ []);
+  typed = λ 𝓤 H A W x is. EL.lawful F.the-type F′.the-laws 𝓤 H A W tt .typed x _ is .0;
+  put = withFlight;
+  stored = λ x v. refl;
+  fits = flight-fits;
+}
 
 -- ---- as a walk uses them: a local holds the address of the record, or of the word
 module _ {M : Type 1} {𝓤 : URA M} where
@@ -333,29 +436,16 @@ module _ {M : Type 1} {𝓤 : URA M} {H : Heap 𝓤} {A : Atoms 𝓤} {K : Type 
           (tyInt w32) b (w * 4 + (spot o i + S .d)) (vint w32 (getD (S .get (vcpuAt g i)) w 0)) (vint w32 y) (tt, record { fits = fits })
           (word-put 𝓤 H A W g b o i within S w in-set y)))
 
-      pub puts-mark : (F : MarkField) (y : Bool) → Rv K W (hand h b o i u ∷ Γ) E rv (vbool y) → Points K W (hand h b o i u ∷ Γ) E j b (spot o i)
+      pub puts-field : {X : Type 0} (F : WholeField X) (y : X) → F .Fits y → Rv K W (hand h b o i u ∷ Γ) E rv (F .val y)
+          → Points K W (hand h b o i u ∷ Γ) E j b (spot o i)
           → Step K W (hand h b o i (F .put y u) ∷ Γ) (runs C Λ E next q)
           (hand h b o i u ∷ Γ) (runs C Λ E (seq (assign (at j (deref R′.mir ∷ field (F .k) ∷ [])) rv) next) q)
-      puts-mark F y rv r =
+      puts-field F y so rv r =
           let g : Module = withVcpu h i u in
           again-on h b o i l u (F .put y)
           (assigns t rv (from t (hop t r (fld t (F .at) (stop t))))
-          (within-changes t (partAt T.the-row fullShare g b o) (partAt T.the-row fullShare (withVcpu g i (F .put y (vcpuAt g i))) b o) tyBool b
+          (within-changes t (partAt T.the-row fullShare g b o) (partAt T.the-row fullShare (withVcpu g i (F .put y (vcpuAt g i))) b o) (F .τ) b
           (spot o i + F .d)
-          (getV (inner (machV (vcpuAt g i))) (F .k)) (vbool y) (tt, tt)
-          (part-put 𝓤 H A W g b o i within (F .k) tyBool (F .d) (F .at) (vbool y) (F .put y (vcpuAt g i)) (F .stored y (vcpuAt g i))
-          (F .fits y (vcpuAt g i)))))
-
-      pub puts-irr : (ys : List ℕ) → Is (Array u32 8) ys (machS ys ∷ []) → Rv K W (hand h b o i u ∷ Γ) E rv (machS ys)
-          → Points K W (hand h b o i u ∷ Γ) E j b (spot o i)
-          → Step K W (hand h b o i (withIrr ys u) ∷ Γ) (runs C Λ E next q)
-          (hand h b o i u ∷ Γ) (runs C Λ E (seq (assign (at j (deref R′.mir ∷ field 1 ∷ [])) rv) next) q)
-      puts-irr ys is rv r =
-          let g : Module = withVcpu h i u in
-          again-on h b o i l u (withIrr ys)
-          (assigns t rv (from t (hop t r (fld t refl (stop t))))
-          (within-changes t (partAt T.the-row fullShare g b o) (partAt T.the-row fullShare (withVcpu g i (withIrr ys (vcpuAt g i))) b o)
-          (tyArray (tyInt w32) 8) b (spot o i + 32)
-          (getV (inner (machV (vcpuAt g i))) 1) (machS ys) (set-typed 𝓤 H A W ys is)
-          (part-put 𝓤 H A W g b o i within 1 (tyArray (tyInt w32) 8) 32 refl (machS ys) (withIrr ys (vcpuAt g i))
-          (ap (λ (xs : List ℕ). vstruct (setV (inner (machV (vcpuAt g i))) 1 (machS xs))) (sym (map-id ys))) (irr-fits ys is (vcpuAt g i)))))
+          (getV (inner (machV (vcpuAt g i))) (F .k)) (F .val y) (F .typed 𝓤 H A W y so)
+          (part-put 𝓤 H A W g b o i within (F .k) (F .τ) (F .d) (F .at) (F .val y) (F .put y (vcpuAt g i)) (F .stored y (vcpuAt g i))
+          (F .fits y so (vcpuAt g i)))))

@@ -25,7 +25,7 @@ use Rattle.model.specs.declared.Vcpu.{Vcpu}
 use Rattle.model.proofs.Vcpu.Laws as R′
 use Rattle.gate_mut.proofs.Address.{backs, to-record, to-word, record-locals, word-locals, record-sought, word-sought, record-found, word-found}
 use Rattle.gate_mut.proofs.Address.{finds-record, finds-word}
-use Rattle.gate_mut.proofs.Fields.{SetField, hand, nmi-mark, word-on, nmi-on, puts-word, puts-mark}
+use Rattle.gate_mut.proofs.Fields.{SetField, hand, nmi-mark, word-on, nmi-on, puts-word, puts-field}
 use Rattle.gate_mut.proofs.Record.{Stands, reads-at, var-at, sets-at}
 
 -- the locals of the other address, and those of the mark behind those of the word, brought to the head
@@ -143,7 +143,7 @@ module _ {M : Type 1} {𝓤 : URA M} {H : Heap 𝓤} {A : Atoms 𝓤} {K : Type 
       sets-at t r-at (nmi-on t h b o i below there u (reads-at t E ja a-at 5 refl)) 6 refl (tt, tt) $
       sets-at t o-at (bin t (var-at t r-at 6 refl) os tt) 7 refl (tt, tt) $
       move t mark-at $ finds-record t b o i below m-at i-at f′-at p′-at a′-at $ move t (backs mark-at 0 11) $
-      puts-mark t h b o i below there u nmi-mark (u .nmi || y) (of-opd t (var-at t o-at 7 refl)) (reads-at t E ja′ a′-at 10 refl) $
+      puts-field t h b o i below there u nmi-mark (u .nmi || y) tt (of-opd t (var-at t o-at 7 refl)) (reads-at t E ja′ a′-at 10 refl) $
       forget t 3 refl $ forget t 4 refl $ forget t 5 refl $ forget t 6 refl $ forget t 7 refl $ forget t 8 refl $ forget t 9 refl $ forget t 10 refl $ s)
 
 module _ {M : Type 1} {𝓤 : URA M} {H : Heap 𝓤} {A : Atoms 𝓤} {K : Type 0} {W : Given 𝓤 H A} {E : Env 𝓤 H} {C : Calls 𝓤 H} {Λ : Loops 𝓤 H} {P : Post 𝓤 H}

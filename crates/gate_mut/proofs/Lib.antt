@@ -13,4 +13,5 @@ pub mod Pass
 pub mod Record
 pub mod Served
 pub mod Sets
+pub mod TwoLists
 pub mod Walk

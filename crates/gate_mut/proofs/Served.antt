@@ -65,6 +65,11 @@ pub is-not : (b : Bool) → Holds (not b) → b ≡ false
 is-not true t = absurd t
 is-not false t = refl
 
+-- and the test of `!x` of x, where it fails
+pub is-set : (b : Bool) → Holds (not (not b)) → b ≡ true
+is-set true t = refl
+is-set false t = absurd t
+
 module _ {M : Type 1} (𝓤 : URA M) (H : Heap 𝓤) (A : Atoms 𝓤) where
   abbrev pub Served : Contract 𝓤
   Served = ValueContract (plain (λ _. u32) ∷ plain (λ _. u32) ∷ []) (yes, (yes, tt)) (plain (λ _. u32)) (λ a r. r ≡ servedCount (a .0) (a .1 .0)) 𝓤 H A

@@ -1,15 +1,15 @@
 -- `gate_mut_pages::notice_in` meets its contract: a walk of its MIR. The page is lent again for `take`, and comes back; where something is asked for, a word of
 -- two sets and the marks are stored in place; and where there are marks, the page goes to `take_marks`, and the set irr is stored as a whole.
 -- Assumes nothing.
-use Rattle.gate_mut.proofs.Walk.{_≡_, refl, sym, _∙_, not, List, [], _∷_, ℕ, _<_, _^_, Holds, URA, w8, w32, w64, Val, vint, vbool, vptr, SProp, ent, GName, Lft}
+use Rattle.gate_mut.proofs.Walk.{_≡_, refl, sym, _∙_, List, [], _∷_, ℕ, _<_, _^_, URA, w8, w32, w64, Val, vint, vbool, vptr, SProp, ent, GName, Lft}
 use Rattle.gate_mut.proofs.Walk.{Share, Heap, WpFn, Tables, Atoms, givenOf, tables, tablesOf, Given, ⋆, _$_, _∵_, !, qed, leb, agg, lit, un, bin, land}
 use Rattle.gate_mut.proofs.Walk.{init, stop, fld, from, load, of-opd, and-then, no-more, enter, params1, pass1, pass0, whole, sub, look-in, open-ref, mem}
 use Rattle.gate_mut.proofs.Walk.{uint-vals, uint-tells, uint-makes, bool-makes, fmOf, u8, u32, bool, plain, yes, Contract, Triple, tripleOf, entered, cited}
 use Prim.Native.Nat.{_+_, _*_, _≤_}
 use native.Mathlib.Omega.{arith}
-use mathlib.Core.Bool.{Bool, true, false, _||_}
+use mathlib.Core.Bool.{Bool, true, _||_}
 use mathlib.Core.Path.{subst}
-use mathlib.Core.List.{_++_, map, map-id}
+use mathlib.Core.List.{_++_}
 use mathlib.Core.Option.{Option, none, some as full}
 use lib.Bits.{bitOr, or-lt}
 use lib.ListN.{length, getD}
@@ -91,7 +91,7 @@ use Rattle.vector_set_algebra.proofs.union.Met as union-thm
 use Rattle.gate_mut.proofs.Address.{backs}
 use Rattle.gate_mut.proofs.Again.{asks-again, lends-page}
 use Rattle.gate_mut.proofs.Answers.{machA, typedA, makesA, unknownA, itemsA}
-use Rattle.gate_mut.proofs.Fields.{nmi-mark, check-mark, irr, irr-level, hand, in-hand, machS, set-typed, field-set}
+use Rattle.gate_mut.proofs.Fields.{nmi-mark, check-mark, irr-set, irr, irr-level, hand, in-hand, machS, set-typed, field-set, field-set-at}
 use Rattle.gate_mut.proofs.Frame.{Blocks, env, cells, deaths, allocates, var, sets, guards, ValueContract, asks}
 use Rattle.gate_mut.proofs.InPlace.{word-code, ors-word}
 use Rattle.gate_mut.proofs.Lens.{machV, spot, knows-module, knows-record}
@@ -99,8 +99,8 @@ use Rattle.gate_mut.proofs.OnModule.{held}
 use Rattle.gate_mut.proofs.OnePage.{lend}
 use Rattle.gate_mut.proofs.Page.{lent, spent, AfterPage, keeps-page, leaves-with, asks-page, walk-proves-page, PageContract}
 use Rattle.gate_mut.proofs.Record.{copies}
-use Rattle.gate_mut.proofs.Served.{Served, has-record, is-not, tells}
-use Rattle.gate_mut.proofs.Sets.{word-out, irr-out, irr-back, mark-back, copies-word, copies-irr, stores-irr, stores-mark}
+use Rattle.gate_mut.proofs.Served.{Served, has-record, is-not, is-set, tells}
+use Rattle.gate_mut.proofs.Sets.{word-out, irr-out, field-back, copies-word, copies-irr, stores-field}
 use Rattle.gate_mut_pages.proofs.notice_in.Key.{name as #on}
 use Rattle.gate_mut_pages.proofs.notice_in as on
 use Rattle.gate_mut_pages.proofs.notice_in.Statement as stated
@@ -140,18 +140,9 @@ Marks q a r z = (r ≡ collect (admitsEdge (a .1 .0) (descriptor (a .0) q))) × 
 abbrev TakesAt : Module → ℕ → List ℕ → NoticeTaken → List ℕ → Type 0
 TakesAt m i p r q = Takes p (m .vmpl, (vcpuAt m i .phase, (vcpuAt m i .allowed, tt))) r q
 
--- a struct's array field, as an array by itself
-allowed-is : (s : List ℕ) (vs : List Val) → Is (Array u32 8) (map (λ (x : ℕ). x) s) vs → Is (Array u32 8) s vs
-allowed-is s vs p = subst (λ (xs : List ℕ). Is (Array u32 8) xs vs) (map-id s) p
-
 vmpl-put : (m : Module) (i : ℕ) (v : Vcpu) → withVcpu m i v .vmpl ≡ m .vmpl
 unfolding withVcpu
 vmpl-put m i v = refl
-
--- what the test of `!x` tells
-is-set : (b : Bool) → Holds (not (not b)) → b ≡ true
-is-set true t = refl
-is-set false t = absurd t
 
 -- ---- the functions that it calls, as the table of calls has them
 abbrev ts : List (Slot 1)
@@ -256,12 +247,12 @@ irr-code next = word-code irr 1 5 9 19 30 31 27 32 33 15 16 34 35 36 37 38 39 (c
 abbrev nmi-code : Code → Code
 nmi-code next =
     seq (assign (place 17 []) (op2 bor (copy (place 6 (field 5 ∷ []))) (copy (place 8 (field 0 ∷ [])))))
-    (mark-back nmi-mark 1 5 27 48 49 (rvOpd (copy (place 17 []))) next)
+    (field-back nmi-mark 1 5 27 48 49 (rvOpd (copy (place 17 []))) next)
 
 abbrev check-code : Code → Code
 check-code next =
     seq (assign (place 17 []) (op2 bor (copy (place 6 (field 6 ∷ []))) (copy (place 8 (field 1 ∷ [])))))
-    (mark-back check-mark 1 5 34 50 51 (rvOpd (copy (place 17 []))) next)
+    (field-back check-mark 1 5 34 50 51 (rvOpd (copy (place 17 []))) next)
 
 abbrev level-code : Code → Code
 level-code next = word-code irr-level 1 5 9 19 40 41 37 42 43 15 16 34 44 45 27 46 47 (copy (place 7 (field 2 ∷ field 1 ∷ []))) next
@@ -290,7 +281,7 @@ count-code next =
 
 abbrev store-code : Code → Code
 store-code next =
-    seq (call #union (copy (place 13 []) ∷ copy (place 12 []) ∷ []) (place 56 [])) (irr-back 1 5 19 57 58 (rvOpd (copy (place 56 []))) next)
+    seq (call #union (copy (place 13 []) ∷ copy (place 12 []) ∷ []) (place 56 [])) (field-back irr-set 1 5 19 57 58 (rvOpd (copy (place 56 []))) next)
 
 module _ {M : Type 1} (𝓤 : URA M) (H : Heap 𝓤) (A : Atoms 𝓤) (W : Given 𝓤 H A) (𝓣 : Tables 𝓤 H) (known : Known 𝓤 H A 𝓣)
     (κ : Lft) (q : Share) (b o : ℕ) (γ : GName) (κ′ : Lft) (q′ : Share) (b′ o′ : ℕ) (γ′ : GName) (h : Module) (i : ℕ) (i-fits : i < 2 ^ 32) (ys : List ℕ)
@@ -355,7 +346,7 @@ module _ {M : Type 1} (𝓤 : URA M) (H : Heap 𝓤) (A : Atoms 𝓤) (W : Given
         (λ α. LL.val S.the-type S′.the-laws) (λ α. LL.tells S.the-type S′.the-laws)
         (λ α. (uint-makes 𝓤 H A W w32, (EL.makes F.the-type F′.the-plain 𝓤 H A, (makesS, tt))))
         (known .take-known) (λ α. (h .vmpl, (v .phase, (v .allowed, tt)))) (λ α. (vint w32 (h .vmpl) ∷ [], (_ ∷ [], (_ ∷ [], tt))))
-        (λ α. ((refl, l-fits), (facts .1 .1 .1 .1 .1 .1 .1 .1 .1 .0, (allowed-is (v .allowed) _ (facts .0), tt)))) (λ α. vmpl-in h i l)
+        (λ α. ((refl, l-fits), (facts .1 .1 .1 .1 .1 .1 .1 .1 .1 .0, (field-set-at (v .allowed) _ (facts .0), tt)))) (λ α. vmpl-in h i l)
         (λ α x y z. and-then ! (var ! 31 refl) (and-then ! (var ! 22 refl) (and-then !
         (load ! (from ! (fld ! {d = 176} refl (stop !))) (look-in ! 13 (sub ! 9 {d = 176} refl (whole !))))
         (and-then ! (load ! (from ! (fld ! refl (stop !))) (look-in ! 13 (sub ! 0 refl (whole !)))) (no-more !)))))
@@ -459,7 +450,7 @@ module _ {M : Type 1} (𝓤 : URA M) (H : Heap 𝓤) (A : Atoms 𝓤) (W : Given
         adds-nmi = stepping (λ s.
             sets ! (bin ! (load ! (from ! (fld ! {d = 160} refl (stop !))) (look-in ! 12 (sub ! 5 {d = 160} refl (whole !))))
             (load ! (from ! (fld ! refl (stop !))) (look-in ! 14 (sub ! 0 refl (whole !)))) tt) 23 refl (tt, tt) $
-            move ! for-nmi $ stores-mark ! nmi-mark h b o i below there with-level (v .nmi || p .nmi) refl refl refl refl refl (of-opd ! (var ! 26 refl)) $
+            move ! for-nmi $ stores-field ! nmi-mark h b o i below there with-level (v .nmi || p .nmi) tt refl refl refl refl refl (of-opd ! (var ! 26 refl)) $
             move ! (backs for-nmi 0 56) $ forget ! 23 refl $ s)
 
         adds-check : {next : Code} → Step (Go {0}) W (standing (hand h b o i after) (page zs) (start zs ready)) (running next)
@@ -467,7 +458,7 @@ module _ {M : Type 1} (𝓤 : URA M) (H : Heap 𝓤) (A : Atoms 𝓤) (W : Given
         adds-check = stepping (λ s.
             sets ! (bin ! (load ! (from ! (fld ! {d = 161} refl (stop !))) (look-in ! 12 (sub ! 6 {d = 161} refl (whole !))))
             (load ! (from ! (fld ! refl (stop !))) (look-in ! 14 (sub ! 1 refl (whole !)))) tt) 23 refl (tt, tt) $
-            move ! for-check $ stores-mark ! check-mark h b o i below there with-nmi (v .«machine_check» || p .«machine_check») refl refl refl refl refl
+            move ! for-check $ stores-field ! check-mark h b o i below there with-nmi (v .«machine_check» || p .«machine_check») tt refl refl refl refl refl
             (of-opd ! (var ! 26 refl)) $
             move ! (backs for-check 0 58) $ forget ! 23 refl $ s)
 
@@ -518,7 +509,7 @@ module _ {M : Type 1} (𝓤 : URA M) (H : Heap 𝓤) (A : Atoms 𝓤) (W : Given
                 machS (array-tells u32 (uint-vals w32) (uint-tells w32) 8)
                 (uint-makes 𝓤 H A W w32, (makesS, (LL.makes Q.the-type Q′.the-plain 𝓤 H A, tt)))
                 (known .marks-known) (h .vmpl, (v .allowed, (r .requested, tt))) (vint w32 (h .vmpl) ∷ [], (_ ∷ [], (_ ∷ [], tt)))
-                ((refl, l-fits), (allowed-is (v .allowed) _ (facts .0), (asked-is, tt))) (marks-asked h i l v refl ys zs r said so many)
+                ((refl, l-fits), (field-set-at (v .allowed) _ (facts .0), (asked-is, tt))) (marks-asked h i l v refl ys zs r said so many)
                 (and-then ! (var ! 59 refl) (and-then ! (var ! 21 refl) (and-then !
                 (load ! (from ! (fld ! refl (stop !))) (look-in ! 12 (sub ! 0 refl (whole !))))
                 (and-then ! (load ! (from ! (fld ! refl (stop !))) (look-in ! 13 (sub ! 2 refl (whole !)))) (no-more !)))))
@@ -556,7 +547,7 @@ module _ {M : Type 1} (𝓤 : URA M) (H : Heap 𝓤) (A : Atoms 𝓤) (W : Given
                   (after .irr, (e, tt)) (machS (after .irr) ∷ [], (machS e ∷ [], tt)) (is-irr, (is-e, tt))
                   (and-then ! (var ! 19 refl) (and-then ! (var ! 18 refl) (no-more !))) (λ s s-is is-s.
                   land ! (from ! (stop !)) (init ! 62 refl (set-typed 𝓤 H A W s is-s)) $
-                  move ! for-store $ stores-irr ! h b o i below there after s is-s refl refl refl refl refl (of-opd ! (var ! 64 refl)) $
+                  move ! for-store $ stores-field ! irr-set h b o i below there after s is-s refl refl refl refl refl (of-opd ! (var ! 64 refl)) $
                   move ! (backs for-store 0 65) $ forget ! 62 refl $ k s s-is)
 
               -- the set is read, and the marks are counted

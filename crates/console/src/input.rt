@@ -4,6 +4,7 @@ use crate::CHUNK_BYTES;
 use crate::Chunk;
 use crate::LINE_ROOM;
 use crate::LineRoom;
+use crate::ListRoom;
 use crate::PageRoom;
 use crate::Session;
 use libc::STDERR_FILENO;
@@ -82,13 +83,18 @@ pub fn advance(chunk: &mut Chunk, line: &mut LineRoom, session: Session) -> Sess
     fill(chunk, now)
 }
 
-// The event of the line that has ended, with the bytes of its page.
-pub fn next_event(line: &LineRoom, page: &mut PageRoom, session: Session) -> Event {
+// The event of the line that has ended, with the bytes of its page or the values of its list.
+pub fn next_event(
+    line: &LineRoom,
+    page: &mut PageRoom,
+    values: &mut ListRoom,
+    session: Session,
+) -> Event {
     let kept = session.kept;
     let text: &[u8] = line;
     if session.ended {
         if kept <= text.len() {
-            return trace::read(&text[..kept], page);
+            return trace::read(&text[..kept], page, values);
         }
     }
     Event::Nothing

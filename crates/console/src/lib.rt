@@ -23,6 +23,11 @@ pub const PAGE_ROOM: usize = 4096;
 
 pub type PageRoom = [u8; PAGE_ROOM];
 
+// Room for the longest list of a trace, of values or of codes.
+pub const LIST_ROOM: usize = 1024;
+
+pub type ListRoom = [u32; LIST_ROOM];
+
 // Where a program stands: the bytes of the chunk that are not read yet, how many bytes of the present line are kept and whether
 // it has ended, how many lines have ended, how full the output is, and whether the program goes on.
 pub struct Session {
@@ -61,4 +66,25 @@ pub fn front(page: &mut [u8], length: usize) -> &mut [u8] {
         return &mut page[..length];
     }
     page
+}
+
+// The first `count` values, or all where there are no more.
+pub fn first_values(values: &[u32], count: usize) -> &[u32] {
+    if count < values.len() {
+        return &values[..count];
+    }
+    values
+}
+
+// Sets each code to `fill`. Gives the first `length`, or all where there are no more.
+pub fn blank_codes(codes: &mut [u32], length: usize, fill: u32) -> &mut [u32] {
+    let mut i = 0;
+    while i < codes.len() {
+        codes[i] = fill;
+        i += 1;
+    }
+    if length < codes.len() {
+        return &mut codes[..length];
+    }
+    codes
 }

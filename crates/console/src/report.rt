@@ -1,8 +1,10 @@
 // The line of an event's answer, and the lines of a module's state.
 use crate::Answer;
 use crate::Chunk;
+use crate::ListRoom;
 use crate::PageRoom;
 use crate::Session;
+use crate::first_values;
 use crate::output::Sink;
 use crate::output::flush;
 use crate::output::put;
@@ -76,6 +78,22 @@ fn put_page(out: &mut Chunk, sink: Sink, page: &[u8]) -> Sink {
     let mut i = 0;
     while i < page.len() {
         sink = put_cell(out, sink, i, page[i]);
+        i += 1;
+    }
+    sink
+}
+
+// ---- codes
+
+fn put_code(out: &mut Chunk, sink: Sink, code: u32) -> Sink {
+    put_hex(out, sink, b" ", code as u64)
+}
+
+fn put_codes(out: &mut Chunk, sink: Sink, codes: &[u32]) -> Sink {
+    let mut sink = sink;
+    let mut i = 0;
+    while i < codes.len() {
+        sink = put_code(out, sink, codes[i]);
         i += 1;
     }
     sink
@@ -215,6 +233,14 @@ fn put_paged(
     put_byte(out, sink, b'\n')
 }
 
+// The line of the event that has a list: its answer, then the first `length` codes.
+fn put_listed(out: &mut Chunk, sink: Sink, a: Answer, codes: &ListRoom, length: usize) -> Sink {
+    let sink = put_answer(out, sink, b"allow", a);
+    let sink = put(out, sink, b" codes");
+    let sink = put_codes(out, sink, first_values(codes, length));
+    put_byte(out, sink, b'\n')
+}
+
 fn put_error(out: &mut Chunk, sink: Sink, number: u64) -> Sink {
     let sink = put_decimal(out, sink, b"error line ", number);
     put_byte(out, sink, b'\n')
@@ -224,6 +250,7 @@ fn put_event(
     out: &mut Chunk,
     sink: Sink,
     page: &PageRoom,
+    codes: &ListRoom,
     number: u64,
     event: Event,
     answer: Answer,
@@ -232,27 +259,13 @@ fn put_event(
     match event {
         Event::Nothing => sink,
         Event::Unreadable => put_error(out, sink, number),
-        Event::Start { n: _, vmpl: _ } => put_start(out, sink, answer),
-        Event::Notice { vcpu: _, length } => put_paged(out, sink, b"notice", answer, page, length),
-        Event::Call {
-            vcpu: _,
-            call: _,
-            ecx: _,
-            rdx: _,
-        } => put_plain(out, sink, b"call", answer),
-        Event::Entry {
-            vcpu: _,
-            iflag: _,
-            shadow: _,
-            blocked: _,
-        } => put_plain(out, sink, b"entry", answer),
-        Event::NonDelivery { vcpu: _ } => put_plain(out, sink, b"nondelivery", answer),
-        Event::HandBack {
-            vcpu: _,
-            iflag: _,
-            shadow: _,
-            length,
-        } => put_paged(out, sink, b"handback", answer, page, length),
+        Event::Start { .. } => put_start(out, sink, answer),
+        Event::Notice { length, .. } => put_paged(out, sink, b"notice", answer, page, length),
+        Event::Call { .. } => put_plain(out, sink, b"call", answer),
+        Event::Entry { .. } => put_plain(out, sink, b"entry", answer),
+        Event::NonDelivery { .. } => put_plain(out, sink, b"nondelivery", answer),
+        Event::HandBack { length, .. } => put_paged(out, sink, b"handback", answer, page, length),
+        Event::Allow { length, .. } => put_listed(out, sink, answer, codes, length),
         Event::State => put_module(out, sink, module),
     }
 }
@@ -261,6 +274,7 @@ fn put_event(
 pub fn report(
     out: &mut Chunk,
     page: &PageRoom,
+    codes: &ListRoom,
     session: Session,
     event: Event,
     answer: Answer,
@@ -268,7 +282,16 @@ pub fn report(
 ) -> Session {
     let mut next = session;
     let before = session.sink;
-    let mut sink = put_event(out, before, page, session.lines, event, answer, module);
+    let mut sink = put_event(
+        out,
+        before,
+        page,
+        codes,
+        session.lines,
+        event,
+        answer,
+        module,
+    );
     if !session.open {
         sink = flush(out, sink);
     }

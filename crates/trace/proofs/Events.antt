@@ -15,8 +15,8 @@ use Rattle.trace.specs.declared.Event.the-variants.{Nothing, Unreadable,
 use Rattle.trace.specs.declared.Name.{Name}
 use Rattle.trace.specs.Words.{words, first, rest, same}
 use Rattle.trace.specs.Pages.{Bytes, told, garbled}
-use Rattle.trace.specs.Lines.{Made, given, taking, only, paged, start, call, entry, nonDelivery}
-use Rattle.trace.specs.Lines.{nameIn, nameOf, named, spoken, isComment, eventOf, PageIs}
+use Rattle.trace.specs.Lines.{Made, given, taking, only, paged, start, notice, call, entry, nonDelivery, handBack, allow}
+use Rattle.trace.specs.Lines.{nameIn, nameOf, named, spoken, isComment, eventOf, PageIs, ValuesAre}
 use Rattle.trace.proofs.Reading.{clash}
 
 -- ---- what follows the arguments
@@ -41,52 +41,89 @@ module _ (b : Bytes) (t : Bool) (p : List ℕ) (e : b ≡ cond t (told p) garble
   unfolding paged
   paged-garbled ev h = rw (e ∙ ap (λ (u : Bool). cond u (told p) garbled) h)
 
--- ---- events without a page
-abbrev Plain : Event → Type 0
-Plain e = (ws : List (List ℕ)) (p : List ℕ) → PageIs ws e p
+-- the values are counted, or are not
+module _ (n m : Number) (e : n ≡ m) (f : ℕ → Event) where
+  pub counted : (v : ℕ) → n ≡ Value v → f v ≡ given m f
+  unfolding given
+  counted v h = rw (sym e ∙ h)
 
-plain-given : (n : Number) (f : ℕ → Event) → ((v : ℕ) → Plain (f v)) → Plain (given n f)
-unfolding given
-plain-given (Value v) f h ws p = h v ws p
-plain-given Invalid f h ws p = tt
+  pub uncounted : n ≡ Invalid → Unreadable ≡ given m f
+  unfolding given
+  uncounted h = rw (sym e ∙ h)
 
-plain-only : (us : List (List ℕ)) (e : Event) → Plain e → Plain (only us e)
-unfolding only
-plain-only [] e h ws p = h ws p
-plain-only (u ∷ us) e h ws p = tt
+-- ---- events without a page, without a list, without either
+abbrev pub Pageless : Event → Type 0
+Pageless e = (ws : List (List ℕ)) (p : List ℕ) → PageIs ws e p
 
--- whatever the arguments are
-abbrev PlainMade : (limits : List ℕ) → Made limits → Type 0
-PlainMade [] f = (us : List (List ℕ)) → Plain (f us)
-PlainMade (m ∷ ms) f = (v : ℕ) → PlainMade ms (f v)
+abbrev pub Listless : Event → Type 0
+Listless e = (ws : List (List ℕ)) (vs : List ℕ) → ValuesAre ws e vs
 
-plain-taking : (limits : List ℕ) (us : List (List ℕ)) (f : Made limits) → PlainMade limits f → Plain (taking limits us f)
-unfolding taking
-plain-taking [] us f h = h us
-plain-taking (m ∷ ms) us f h = plain-given (first m us) _ λ v. plain-taking ms (rest us) (f v) (h v)
+abbrev pub Plain : Event → Type 0
+Plain e = (ws : List (List ℕ)) (p vs : List ℕ) → PageIs ws e p × ValuesAre ws e vs
+
+-- what holds of an unreadable line, and of an event whatever its arguments are
+module _ (Q : Event → Type 0) (none : Q Unreadable) where
+  by-given : (n : Number) (f : ℕ → Event) → ((v : ℕ) → Q (f v)) → Q (given n f)
+  unfolding given
+  by-given (Value v) f h = h v
+  by-given Invalid f h = none
+
+  by-only : (us : List (List ℕ)) (e : Event) → Q e → Q (only us e)
+  unfolding only
+  by-only [] e h = h
+  by-only (u ∷ us) e h = none
+
+  by-paged : (b : Bytes) (e : Event) → Q e → Q (paged b e)
+  unfolding paged
+  by-paged (told p) e h = h
+  by-paged garbled e h = none
+
+  abbrev ByMade : (limits : List ℕ) → Made limits → Type 0
+  ByMade [] f = (us : List (List ℕ)) → Q (f us)
+  ByMade (m ∷ ms) f = (v : ℕ) → ByMade ms (f v)
+
+  by-taking : (limits : List ℕ) (us : List (List ℕ)) (f : Made limits) → ByMade limits f → Q (taking limits us f)
+  unfolding taking
+  by-taking [] us f h = h us
+  by-taking (m ∷ ms) us f h = by-given (first m us) _ λ v. by-taking ms (rest us) (f v) (h v)
+
+plain-none : Plain Unreadable
+plain-none ws p vs = (tt, tt)
 
 pub plain-start : (us : List (List ℕ)) → Plain (start us)
 unfolding start
-plain-start us = plain-taking _ us _ λ n l vs. plain-only vs _ λ ws p. tt
+plain-start us = by-taking Plain plain-none _ us _ λ n l ts. by-only Plain plain-none ts _ λ ws p vs. (tt, tt)
 
 pub plain-call : (us : List (List ℕ)) → Plain (call us)
 unfolding call
-plain-call us = plain-taking _ us _ λ i c ecx rdx vs. plain-only vs _ λ ws p. tt
+plain-call us = by-taking Plain plain-none _ us _ λ i c ecx rdx ts. by-only Plain plain-none ts _ λ ws p vs. (tt, tt)
 
 pub plain-entry : (us : List (List ℕ)) → Plain (entry us)
 unfolding entry
-plain-entry us = plain-taking _ us _ λ i f s b vs. plain-only vs _ λ ws p. tt
+plain-entry us = by-taking Plain plain-none _ us _ λ i f s b ts. by-only Plain plain-none ts _ λ ws p vs. (tt, tt)
 
 pub plain-non-delivery : (us : List (List ℕ)) → Plain (nonDelivery us)
 unfolding nonDelivery
-plain-non-delivery us = plain-taking _ us _ λ i vs. plain-only vs _ λ ws p. tt
+plain-non-delivery us = by-taking Plain plain-none _ us _ λ i ts. by-only Plain plain-none ts _ λ ws p vs. (tt, tt)
 
 pub plain-state : (us : List (List ℕ)) → Plain (only us State)
-plain-state us = plain-only _ _ λ ws p. tt
+plain-state us = by-only Plain plain-none us _ λ ws p vs. (tt, tt)
 
--- an event that equals one without a page has none
-pub plainly : (e f : Event) → e ≡ f → Plain f → Plain e
-plainly e f h q ws p = subst (λ (x : Event). PageIs ws x p) (sym h) (q ws p)
+pub listless-notice : (us : List (List ℕ)) → Listless (notice us)
+unfolding notice
+listless-notice us = by-taking Listless (λ ws vs. tt) _ us _ λ i long ts. by-paged Listless (λ ws vs. tt) _ _ λ ws vs. tt
+
+pub listless-hand-back : (us : List (List ℕ)) → Listless (handBack us)
+unfolding handBack
+listless-hand-back us = by-taking Listless (λ ws vs. tt) _ us _ λ i f s long ts. by-paged Listless (λ ws vs. tt) _ _ λ ws vs. tt
+
+pub pageless-allow : (us : List (List ℕ)) → Pageless (allow us)
+unfolding allow
+pageless-allow us = by-taking Pageless (λ ws p. tt) _ us _ λ i long x ts. by-given Pageless (λ ws p. tt) _ _ λ n ws p. tt
+
+-- an event that equals one without them has none
+pub plainly : (Q : Event → Type 0) (e f : Event) → e ≡ f → Q f → Q e
+plainly Q e f h q = subst Q (sym h) q
 
 -- ---- names
 same-self : (x : List ℕ) → same x x ≡ true
@@ -152,3 +189,6 @@ renamed ws n m e = ap (λ (k : Name). named k ws) e
 
 pub repaged : (e : Event) (p : List ℕ) (ws us : List (List ℕ)) → ws ≡ us → PageIs ws e p → PageIs us e p
 repaged e p ws us h q = subst (λ (k : List (List ℕ)). PageIs k e p) h q
+
+pub relisted : (e : Event) (vs : List ℕ) (ws us : List (List ℕ)) → ws ≡ us → ValuesAre ws e vs → ValuesAre us e vs
+relisted e vs ws us h q = subst (λ (k : List (List ℕ)). ValuesAre k e vs) h q

@@ -1,4 +1,5 @@
 pub mod Numbers
 pub mod Words
 pub mod Pages
+pub mod Lists
 pub mod Lines

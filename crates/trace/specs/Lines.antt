@@ -1,4 +1,4 @@
--- A line of a trace: the event that it is, and the page that it tells.
+-- A line of a trace: the event that it is, and the page or the list that it tells.
 -- Assumes nothing.
 use mathlib.Core.Path.{_≡_}
 use mathlib.Core.Bool.{Bool, true, false, cond}
@@ -12,15 +12,14 @@ use Rattle.trace.specs.declared.Arguments.{Arguments}
 use Rattle.trace.specs.declared.Name.{Name}
 use Rattle.trace.specs.declared.Name.the-variants as name
 use Rattle.trace.specs.declared.Event.{Event}
-use Rattle.trace.specs.declared.Event.the-variants.{Nothing, Unreadable, Start, Notice, Call, Entry, NonDelivery, HandBack, State}
+use Rattle.trace.specs.declared.Event.the-variants.{Nothing, Unreadable, Start, Notice, Call, Entry, NonDelivery, HandBack, Allow, State}
+use Rattle.trace.specs.Numbers.{max32}
 use Rattle.trace.specs.Words.{ascii, words, first, rest, same}
 use Rattle.trace.specs.Pages.{Bytes, told, garbled, fill, zeros}
+use Rattle.trace.specs.Lists.{maxList, countOf, Holds}
 
 -- ---- arguments
--- the limits: a number of 32 bits or of 64, a flag, the length of a page
-abbrev pub max32 : ℕ
-max32 = 0xFFFF_FFFF
-
+-- the limits beside `max32` and `maxList`: a number of 64 bits, a flag, the length of a page
 abbrev pub max64 : ℕ
 max64 = 0xFFFF_FFFF_FFFF_FFFF
 
@@ -97,6 +96,10 @@ unfoldable pub handBack : List (List ℕ) → Event
 handBack ws =
     taking (max32 ∷ maxFlag ∷ maxFlag ∷ maxLength ∷ []) ws λ i f s long us. paged (fill long us zeros) (HandBack i (isOne f) (isOne s) long)
 
+-- `allow VCPU LENGTH FILL [ECX ...]`
+unfoldable pub allow : List (List ℕ) → Event
+allow ws = taking (max32 ∷ maxList ∷ max32 ∷ []) ws λ i long x us. given (countOf us) λ n. Allow i n long x
+
 -- ---- lines
 abbrev pub names : List (List ℕ × Name)
 names =
@@ -106,6 +109,7 @@ names =
     ∷ (ascii "entry", name.Entry)
     ∷ (ascii "nondelivery", name.NonDelivery)
     ∷ (ascii "handback", name.HandBack)
+    ∷ (ascii "allow", name.Allow)
     ∷ (ascii "state", name.State)
     ∷ []
 
@@ -123,6 +127,7 @@ named name.Call ws = call ws
 named name.Entry ws = entry ws
 named name.NonDelivery ws = nonDelivery ws
 named name.HandBack ws = handBack ws
+named name.Allow ws = allow ws
 named name.State ws = only ws State
 named name.Unknown ws = Unreadable
 
@@ -152,4 +157,19 @@ PageIs ws (Call i c ecx rdx) p = Unit
 PageIs ws (Entry i f s b) p = Unit
 PageIs ws (NonDelivery i) p = Unit
 PageIs ws (HandBack i f s long) p = (long ≤ 4096) × (fill long (drop 4 ws) zeros ≡ told p)
+PageIs ws (Allow i n long x) p = Unit
 PageIs ws State p = Unit
+
+-- ---- the values of an event's list, after the words that follow its name: the numbers of the words after the first three, in order;
+-- neither of its lists is longer than 1,024
+abbrev pub ValuesAre : List (List ℕ) → Event → List ℕ → Type 0
+ValuesAre ws Nothing vs = Unit
+ValuesAre ws Unreadable vs = Unit
+ValuesAre ws (Start n l) vs = Unit
+ValuesAre ws (Notice i long) vs = Unit
+ValuesAre ws (Call i c ecx rdx) vs = Unit
+ValuesAre ws (Entry i f s b) vs = Unit
+ValuesAre ws (NonDelivery i) vs = Unit
+ValuesAre ws (HandBack i f s long) vs = Unit
+ValuesAre ws (Allow i n long x) vs = (long ≤ maxList) × (n ≤ maxList) × Holds (drop 3 ws) n vs
+ValuesAre ws State vs = Unit

@@ -39,3 +39,7 @@ numberOf w = cond (isHex w) (digitsOf 16 (drop 2 w)) (digitsOf 10 w)
 unfoldable pub upTo : ℕ → Number → Number
 upTo most (Value v) = cond (leb v most) (Value v) Invalid
 upTo most Invalid = Invalid
+
+-- the most that a number of 32 bits is
+abbrev pub max32 : ℕ
+max32 = 0xFFFF_FFFF

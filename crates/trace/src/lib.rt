@@ -1,4 +1,5 @@
 // Reading a line of a trace into an event.
+mod lists;
 mod numbers;
 mod pages;
 mod words;
@@ -7,9 +8,10 @@ ghost use mathlib.Core.Path.{_≡_};
 ghost use Prim.Native.Nat.{_≤_};
 ghost use lib.ListN.{length, drop};
 ghost use Rattle.trace.specs.Words.{words, rest};
-ghost use Rattle.trace.specs.Lines.{only, start, notice, call, entry, nonDelivery, handBack, nameOf, named, isComment, eventOf, PageIs};
+ghost use Rattle.trace.specs.Lines.{only, start, notice, call, entry, nonDelivery, handBack, allow};
+ghost use Rattle.trace.specs.Lines.{nameOf, named, isComment, eventOf, PageIs, ValuesAre};
 
-// The limits of arguments: a number of 32 bits or of 64, a flag, the length of a page.
+// The limits of arguments: a number of 32 bits or of 64, a flag, the length of a page, that of a list.
 const MAX32: u64 = 0xFFFF_FFFF;
 
 const MAX64: u64 = u64::MAX;
@@ -18,10 +20,12 @@ const MAX_FLAG: u64 = 1;
 
 const MAX_LENGTH: u64 = 4096;
 
+const MAX_LIST: u64 = 1024;
+
 // Lines of at most this many bytes are read; a longer one is unreadable.
 pub const LONGEST: usize = 65536;
 
-// What a line says. `Nothing` is a line that is passed over. The bytes of a page stand beside it.
+// What a line says. `Nothing` is a line that is passed over. The bytes of a page and the values of a list stand beside it.
 pub enum Event {
     Nothing,
     Unreadable,
@@ -54,6 +58,12 @@ pub enum Event {
         shadow: bool,
         length: usize,
     },
+    Allow {
+        vcpu: u32,
+        count: usize,
+        length: usize,
+        fill: u32,
+    },
     State,
 }
 
@@ -65,6 +75,7 @@ enum Name {
     Entry,
     NonDelivery,
     HandBack,
+    Allow,
     State,
     Unknown,
 }
@@ -224,6 +235,28 @@ fn read_hand_back(s: &[u8], at: usize, page: &mut [u8; 4096]) -> Event
     }
 }
 
+// `allow VCPU LENGTH FILL [ECX ...]`
+fn read_allow(s: &[u8], at: usize, values: &mut [u32; 1024]) -> Event
+    requires { ⌜ at ≤ length (now s) ⌝ }
+    ensures { λ r. ⌜ r ≡ allow (words (drop at (now (s .entry)))) ⌝ }
+    ensures { λ r. ⌜ ValuesAre (words (drop at (now (s .entry)))) r (now (values .exit)) ⌝ }
+{
+    let a = numbers::arguments_at(s, at, &[MAX32, MAX_LIST, MAX32]);
+    if a.valid {
+        let Number::Value(count) = lists::fill(s, a.next, values) else {
+            return Event::Unreadable;
+        };
+        Event::Allow {
+            vcpu: a.values[0] as u32,
+            count: count as usize,
+            length: a.values[1] as usize,
+            fill: a.values[2] as u32,
+        }
+    } else {
+        Event::Unreadable
+    }
+}
+
 // ---- lines
 
 fn name_of(word: &[u8]) -> Name
@@ -247,6 +280,9 @@ fn name_of(word: &[u8]) -> Name
     if words::is(word, b"handback") {
         return Name::HandBack;
     }
+    if words::is(word, b"allow") {
+        return Name::Allow;
+    }
     if words::is(word, b"state") {
         return Name::State;
     }
@@ -254,10 +290,17 @@ fn name_of(word: &[u8]) -> Name
 }
 
 // The event of a name and the words from `at` on.
-fn read_named(name: Name, s: &[u8], at: usize, page: &mut [u8; 4096]) -> Event
+fn read_named(
+    name: Name,
+    s: &[u8],
+    at: usize,
+    page: &mut [u8; 4096],
+    values: &mut [u32; 1024],
+) -> Event
     requires { ⌜ at ≤ length (now s) ⌝ }
     ensures { λ r. ⌜ r ≡ named name (words (drop at (now (s .entry)))) ⌝ }
     ensures { λ r. ⌜ PageIs (words (drop at (now (s .entry)))) r (now (page .exit)) ⌝ }
+    ensures { λ r. ⌜ ValuesAre (words (drop at (now (s .entry)))) r (now (values .exit)) ⌝ }
 {
     match name {
         Name::Start => read_start(s, at),
@@ -266,6 +309,7 @@ fn read_named(name: Name, s: &[u8], at: usize, page: &mut [u8; 4096]) -> Event
         Name::Entry => read_entry(s, at),
         Name::NonDelivery => read_non_delivery(s, at),
         Name::HandBack => read_hand_back(s, at, page),
+        Name::Allow => read_allow(s, at, values),
         Name::State => ended(s, at, Event::State),
         Name::Unknown => Event::Unreadable,
     }
@@ -277,10 +321,11 @@ fn is_comment(line: &[u8]) -> bool
     line.len() != 0 && line[0] == b'#'
 }
 
-// The event of a line. Where it has a page, the page's bytes are in `page`, from its start on.
-pub fn read(line: &[u8], page: &mut [u8; 4096]) -> Event
+// The event of a line. Where it has a page, the page's bytes are in `page`, from its start on; where it has a list, its values are in `values`.
+pub fn read(line: &[u8], page: &mut [u8; 4096], values: &mut [u32; 1024]) -> Event
     ensures { λ r. ⌜ r ≡ eventOf (now (line .entry)) ⌝ }
     ensures { λ r. ⌜ PageIs (rest (words (now (line .entry)))) r (now (page .exit)) ⌝ }
+    ensures { λ r. ⌜ ValuesAre (rest (words (now (line .entry)))) r (now (values .exit)) ⌝ }
 {
     if is_comment(line) {
         return Event::Nothing;
@@ -294,5 +339,5 @@ pub fn read(line: &[u8], page: &mut [u8; 4096]) -> Event
     }
     let to = words::word_end(line, from);
     let name = name_of(&line[from..to]);
-    read_named(name, line, to, page)
+    read_named(name, line, to, page, values)
 }

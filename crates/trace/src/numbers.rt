@@ -72,7 +72,7 @@ fn up_to(most: u64, number: Number) -> Number
 // ---- arguments
 
 // The next word from `at` on as a number of at most `most`.
-fn argument_at(s: &[u8], at: usize, most: u64) -> Argument
+pub(crate) fn argument_at(s: &[u8], at: usize, most: u64) -> Argument
     requires { ⌜ at ≤ length (now s) ⌝ }
     ensures { λ r. ⌜ Read most (drop at (now (s .entry))) (now (s .entry)) r ⌝ }
 {

@@ -71,12 +71,21 @@ left-6 c = name-miss _ _ _ _ (sym (c .before .is6 .ensures) ∙ c .if6 .left) �
 returns-7 : tie.Need-returns-7
 returns-7 c = name-hit _ _ _ _ (sym (c .before .is7 .ensures) ∙ c .if7 .taken) ∙ left-6 (c .before .before .before)
 
-left-7 : (c : tie.Else7) → Left 7 (word-6 (c .before .before .before))
+abbrev word-7 : tie.Else7 → List ℕ
+word-7 c = word-6 (c .before .before .before)
+
+left-7 : (c : tie.Else7) → Left 7 (word-7 c)
 left-7 c = name-miss _ _ _ _ (sym (c .before .is7 .ensures) ∙ c .if7 .left) ∙ left-6 (c .before .before .before)
 
 returns-8 : tie.Need-returns-8
+returns-8 c = name-hit _ _ _ _ (sym (c .before .is8 .ensures) ∙ c .if8 .taken) ∙ left-7 (c .before .before .before)
+
+left-8 : (c : tie.Else8) → Left 8 (word-7 (c .before .before .before))
+left-8 c = name-miss _ _ _ _ (sym (c .before .is8 .ensures) ∙ c .if8 .left) ∙ left-7 (c .before .before .before)
+
+returns-9 : tie.Need-returns-9
 unfolding nameIn
-returns-8 c = left-7 c
+returns-9 c = left-8 c
 
 pub name-of-spec : {M : Type 1} → statement M
 name-of-spec =
@@ -103,4 +112,7 @@ name-of-spec =
     (λ c. search needs)
     (λ c κs. search needs)
     returns-7
-    returns-8)
+    (λ c. search needs)
+    (λ c κs. search needs)
+    returns-8
+    returns-9)

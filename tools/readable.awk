@@ -14,6 +14,7 @@ BEGIN {
     WHY["0x3"] = "not leaving"
     WHY["0x4"] = "nothing in flight"
     WHY["0x5"] = "n or VMPL out of range"
+    WHY["0x6"] = "over 256 values, or too few places for codes"
     WHY["0x80000001"] = "not active"
     WHY["0x80000002"] = "no such call"
     WHY["0x80000003"] = "no such register for this"
@@ -105,6 +106,22 @@ function called(call, ecx, value) {
     return permitted(ecx)
 }
 
+# ---- lists of values
+
+# Words 5 on are the values of the line and, in the answer, the places of the second list.
+function listed(given, words, told, count,    k, wrong, names) {
+    for (k = 5; k <= words; k++) if (told[k] != "0x0" && ++wrong <= 6) names = names (wrong == 1 ? "" : " ") given[k]
+    if (wrong > 6) names = names " ..."
+    return (words < 5 ? "no value" : (words - 4 - wrong) " accepted") (wrong ? ", " wrong " refused (" names ")" : "") places(given, told, words + 1, count)
+}
+
+# The places from one on, if there are any; word 4 of the line says what stood there.
+function places(given, told, from, count,    k) {
+    if (count < from) return ""
+    for (k = from; k <= count; k++) if (number(told[k]) != number(given[4])) return "; places changed"
+    return "; " (count - from + 1) (count == from ? " place" : " places") " as before"
+}
+
 # ---- entries
 
 function presented(what, vector) {
@@ -175,12 +192,13 @@ function show_module(line, first,    word, n, k) {
 
 function answer_of(given, words, told, count,    text) {
     if (told[1] == "error") return "unreadable (line " told[3] ")"
-    if (told[2] == "refused") text = refused(told[3])
+    if (told[2] == "refused") text = refused(told[3]) (told[1] == "allow" ? places(given, told, 5, count) : "")
     else if (told[1] == "start") text = "ok"
     else if (told[1] == "notice") text = admitted(number(told[3]), number(told[4]))
     else if (told[1] == "call") text = called(number(given[3]), number(given[4]), told[3])
     else if (told[1] == "entry") text = presented(told[2], told[3])
     else if (told[1] == "nondelivery") text = "pending again"
+    else if (told[1] == "allow") text = listed(given, words, told, count)
     else text = handed(number(told[3]))
     if (told[1] == "notice") text = text "; " page(bytes_of(given, 4, words), bytes_of(told, told[2] == "ok" ? 6 : 5, count))
     if (told[1] == "handback") text = text "; " page(bytes_of(given, 6, words), bytes_of(told, 5, count))

@@ -4,10 +4,23 @@ use crate::calls::allow_rule;
 use crate::set::VectorSet;
 use crate::state::{Module, Phase};
 
-/// 12.9. Kinds of event that the book never heeds are left out.
-pub enum Entry {
-    Call { vcpu: u32, call: u32, ecx: u32 },
-    HandBack { vcpu: u32, length: usize },
+/// 12.9. Kinds of event that the book never heeds are left out. Of a second list it sees the length
+/// (A5).
+pub enum Entry<'a> {
+    Call {
+        vcpu: u32,
+        call: u32,
+        ecx: u32,
+    },
+    HandBack {
+        vcpu: u32,
+        length: usize,
+    },
+    Allow {
+        vcpu: u32,
+        values: &'a [u32],
+        length: usize,
+    },
 }
 
 #[derive(Clone, PartialEq, Eq, Debug)]
@@ -48,6 +61,11 @@ impl Book {
             Entry::Call { vcpu, call: 4, ecx } if self.active(vcpu) => self.allow(vcpu, ecx),
             Entry::Call { .. } => {}
             Entry::HandBack { vcpu, length } => self.hand_back(vcpu, length),
+            Entry::Allow {
+                vcpu,
+                values,
+                length,
+            } => self.allow_all(vcpu, values, length),
         }
     }
 
@@ -74,6 +92,16 @@ impl Book {
             set.put((ecx - 256) as usize);
         } else {
             set.take(ecx as usize);
+        }
+    }
+
+    /// A5: as so many calls 4; a list that would be refused changes nothing.
+    fn allow_all(&mut self, vcpu: u32, values: &[u32], length: usize) {
+        if !self.active(vcpu) || values.len() > 256 || length < values.len() {
+            return;
+        }
+        for &ecx in values {
+            self.allow(vcpu, ecx);
         }
     }
 

@@ -6,7 +6,7 @@ use std::io::{BufRead, Result};
 use crate::lines::Lines;
 
 /// The lines that can be printed (`docs/REPLAY.md`, section 11), numbers left out but for codes.
-const EXPECTED: [&str; 35] = [
+const EXPECTED: [&str; 39] = [
     "start ok",
     "start refused 0x5",
     "notice ok, no item",
@@ -39,6 +39,10 @@ const EXPECTED: [&str; 35] = [
     "handback refused 0x1",
     "handback refused 0x3",
     "handback refused 0x2",
+    "allow ok",
+    "allow refused 0x1",
+    "allow refused 0x80000001",
+    "allow refused 0x6",
     "error line",
     "module",
     "vcpu",

@@ -24,6 +24,8 @@ pub type Gate = fn(&mut Module, &mut Event) -> Answer;
 pub struct Played {
     pub answers: Vec<Answer>,
     pub hand_back_pages: Vec<Vec<u8>>,
+    /// The second lists, each after its event (A5).
+    pub codes: Vec<Vec<u32>>,
     pub module: Module,
 }
 
@@ -31,13 +33,16 @@ pub fn played(list: &[Event], gate: Gate) -> Played {
     let mut p = Played {
         answers: vec![],
         hand_back_pages: vec![],
+        codes: vec![],
         module: Module::refused(),
     };
     for event in list {
         let mut event = event.clone();
         p.answers.push(gate(&mut p.module, &mut event));
-        if let Event::HandBack { page, .. } = event {
-            p.hand_back_pages.push(page);
+        match event {
+            Event::HandBack { page, .. } => p.hand_back_pages.push(page),
+            Event::Allow { codes, .. } => p.codes.push(codes),
+            _ => {}
         }
     }
     p
@@ -53,7 +58,7 @@ pub fn opened(list: &[Event]) -> (Book, u32) {
 }
 
 /// 12.9
-pub fn entry_of(event: &Event) -> Option<Entry> {
+pub fn entry_of(event: &Event) -> Option<Entry<'_>> {
     match event {
         Event::Call {
             vcpu, call, ecx, ..
@@ -65,6 +70,15 @@ pub fn entry_of(event: &Event) -> Option<Entry> {
         Event::HandBack { vcpu, page, .. } => Some(Entry::HandBack {
             vcpu: *vcpu,
             length: page.len(),
+        }),
+        Event::Allow {
+            vcpu,
+            values,
+            codes,
+        } => Some(Entry::Allow {
+            vcpu: *vcpu,
+            values,
+            length: codes.len(),
         }),
         _ => None,
     }
@@ -213,6 +227,9 @@ pub fn alike(first: &Played, second: &Played) -> Result<(), String> {
     }
     if first.hand_back_pages != second.hand_back_pages {
         return Err("a page after a hand-back differs from the twin's".to_string());
+    }
+    if first.codes != second.codes {
+        return Err("a second list differs from the twin's".to_string());
     }
     if first.module != second.module {
         return Err("the final module differs from the twin's".to_string());

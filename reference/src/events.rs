@@ -1,7 +1,7 @@
 //! The events (sections 4 and 8 to 10); guest calls are in `calls`.
 
 use crate::calls;
-use crate::codes::{Code, NOTHING_IN_FLIGHT, NOT_LEAVING};
+use crate::codes::{Code, BAD_LIST, NOTHING_IN_FLIGHT, NOT_LEAVING};
 use crate::page;
 use crate::registers::{class, ppr};
 use crate::set::VectorSet;
@@ -38,6 +38,12 @@ pub enum Event {
         shadow: bool,
         page: Vec<u8>,
     },
+    /// A list of ECX values and the second list, which receives their codes (A5).
+    Allow {
+        vcpu: u32,
+        values: Vec<u32>,
+        codes: Vec<u32>,
+    },
 }
 
 /// 8.4
@@ -63,9 +69,10 @@ pub enum Answer {
     Entry(Result<Shown, Code>),
     NonDelivery(Result<u32, Code>),
     HandBack(Result<u32, Code>),
+    Allow(Result<u32, Code>),
 }
 
-/// One step (1.1). The page is a part of the event and is changed there.
+/// One step (1.1). The page or second list is a part of the event and is changed there.
 pub fn step(m: &mut Module, event: &mut Event) -> Answer {
     match event {
         Event::Start { n, vmpl } => {
@@ -93,6 +100,11 @@ pub fn step(m: &mut Module, event: &mut Event) -> Answer {
             shadow,
             page,
         } => Answer::HandBack(hand_back(m, *vcpu, page, *if_set, *shadow)),
+        Event::Allow {
+            vcpu,
+            values,
+            codes,
+        } => Answer::Allow(allow(m, *vcpu, values, codes)),
     }
 }
 
@@ -226,4 +238,23 @@ pub fn hand_back(
     record.machine_check = false;
     record.phase = Phase::Left;
     Ok(result)
+}
+
+/// A5: each value is a call 4 of its own, and the next one finds what it left.
+pub fn allow(m: &mut Module, vcpu: u32, values: &[u32], codes: &mut [u32]) -> Result<u32, Code> {
+    m.active(vcpu)?;
+    check_lists(values.len(), codes.len())?;
+    for (&ecx, code) in values.iter().zip(codes) {
+        *code = calls::call(m, vcpu, 4, ecx, 0).err().unwrap_or(0);
+    }
+    Ok(0)
+}
+
+/// A5
+fn check_lists(values: usize, codes: usize) -> Result<(), Code> {
+    if values <= 256 && codes >= values {
+        Ok(())
+    } else {
+        Err(BAD_LIST)
+    }
 }

@@ -26,3 +26,4 @@ pub mod set;
 pub mod state;
 pub mod trace;
 pub mod twin;
+pub mod value_lists;

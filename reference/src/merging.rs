@@ -1,5 +1,5 @@
 //! How often the requests of a trace meet what is pending, in service or in flight, and what becomes
-//! of machine checks. Answers alone do not tell whom an IPI reached, nor which item was admitted, so
+//! of machine checks and of lists of values. Answers alone do not tell whom an IPI reached, nor which item was admitted, so
 //! the trace is played.
 
 use std::collections::BTreeMap;
@@ -13,9 +13,10 @@ use crate::machine_checks;
 use crate::page::{admitted, Admitted};
 use crate::state::{Item, Module, Phase, Record};
 use crate::trace::{read, Line};
+use crate::value_lists;
 
 /// Of an accepted notice each kind that one of its items has, of an accepted IPI the one it has.
-const REQUESTS: [&str; 15] = [
+pub const REQUESTS: [&str; 15] = [
     "notice, NMI, was pending",
     "notice, level-sensitive, was pending as edge",
     "notice, edge, was pending as level-sensitive",
@@ -34,7 +35,7 @@ const REQUESTS: [&str; 15] = [
 ];
 
 fn expected() -> Vec<&'static str> {
-    [&REQUESTS[..], &machine_checks::KINDS].concat()
+    [&REQUESTS[..], &machine_checks::KINDS, &value_lists::KINDS].concat()
 }
 
 pub struct Merging {
@@ -53,12 +54,10 @@ impl Merging {
             };
             let before = module.clone();
             let answer = step(&mut module, &mut event.clone());
-            let of_machine_checks = machine_checks::kinds(&before, &event, &answer);
-            for kind in kinds(&before, &event, &answer)
-                .into_iter()
-                .chain(of_machine_checks)
-            {
-                *counts.entry(kind).or_insert(0) += 1;
+            for kinds in [kinds, machine_checks::kinds, value_lists::kinds] {
+                for kind in kinds(&before, &event, &answer) {
+                    *counts.entry(kind).or_insert(0) += 1;
+                }
             }
         }
         Ok(Merging { counts })
@@ -68,9 +67,9 @@ impl Merging {
         self.counts.get(kind).copied().unwrap_or(0)
     }
 
-    /// Of the kind that is met least.
-    pub fn fewest(&self) -> u64 {
-        let counts = expected().into_iter().map(|kind| self.count(kind));
+    /// Of the one of these kinds that is met least.
+    pub fn fewest(&self, kinds: &[&str]) -> u64 {
+        let counts = kinds.iter().map(|kind| self.count(kind));
         counts.min().expect("there are kinds")
     }
 

@@ -7,7 +7,7 @@ use crate::lines::LONGEST;
 use crate::random::Random;
 
 /// None of these is an event or `state`.
-const NO_EVENT: [&[u8]; 60] = [
+const NO_EVENT: [&[u8]; 73] = [
     b"",
     b"    ",
     b"# a comment",
@@ -67,6 +67,19 @@ const NO_EVENT: [&[u8]; 60] = [
     b"nondelivery\x00 0",
     b"handback 0 1 0",
     b"handback 0 1 3 256",
+    b"allow",
+    b"allow 0",
+    b"allow 0 1",
+    b"allow 4294967296 1 0 0x141",
+    b"allow 0 1025 0 0x141",
+    b"allow 0 0x10000000000000001 0 0x141",
+    b"allow 0 1 4294967296 0x141",
+    b"allow 0 1 0 0x100000141",
+    b"allow 0 2 0 0x141 0x1g1",
+    b"allow 0 2 0 0x141,0x142",
+    b"allow 0 4 0 3=1",
+    b"allow 0 -1 0 0x141",
+    b"Allow 0 1 0 0x141",
     b"\xff\xfe\xb5",
 ];
 
@@ -83,6 +96,10 @@ pub fn before(r: &mut Random, event: &Event, out: &mut impl Write) -> Result<()>
     if r.below(20_000) == 0 {
         out.write_all(&padded("# long".to_string(), LONGEST + r.between(0, 2)))?;
         out.write_all(b"\n")?;
+    }
+    if r.below(4_000) == 0 {
+        let many = " 321".repeat(1025 + r.below(2));
+        writeln!(out, "allow 0 {} 0{many}", r.pick(&[0, 256, 1024]))?;
     }
     Ok(())
 }

@@ -7,7 +7,7 @@ use crate::events::{Admission, Answer, Event, Shown};
 use crate::set::VectorSet;
 use crate::state::{Item, Module, Phase, Record};
 
-/// The line for an event that was played; its page is the one after it.
+/// The line for an event that was played; its page or second list is the one after it.
 pub fn answer(event: &Event, answer: &Answer) -> String {
     match (answer, event) {
         (Answer::Start(Ok(())), _) => "start ok".to_string(),
@@ -20,6 +20,9 @@ pub fn answer(event: &Event, answer: &Answer) -> String {
         (Answer::NonDelivery(a), _) => format!("nondelivery {}", outcome(a)),
         (Answer::HandBack(a), Event::HandBack { page, .. }) => {
             format!("handback {} page{}", outcome(a), bytes(page))
+        }
+        (Answer::Allow(a), Event::Allow { codes, .. }) => {
+            format!("allow {} codes{}", outcome(a), numbers(codes))
         }
         _ => unreachable!("an answer stands with its own event"),
     }
@@ -60,6 +63,10 @@ fn bytes(page: &[u8]) -> String {
         }
     }
     text
+}
+
+fn numbers(list: &[u32]) -> String {
+    list.iter().map(|number| format!(" {number:#x}")).collect()
 }
 
 /// The lines for `state`, each with its newline.
@@ -140,6 +147,16 @@ impl Display for Event {
             } => {
                 let [i, s] = [if_set, shadow].map(|flag| u8::from(*flag));
                 write!(f, "handback {vcpu} {i} {s} {}{}", page.len(), bytes(page))
+            }
+            Event::Allow {
+                vcpu,
+                values,
+                codes,
+            } => {
+                // All entries are the same; where there is none, any FILL does.
+                let fill = codes.first().unwrap_or(&u32::MAX);
+                write!(f, "allow {vcpu} {} {fill:#x}", codes.len())?;
+                write!(f, "{}", numbers(values))
             }
         }
     }

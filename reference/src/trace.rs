@@ -13,6 +13,9 @@ pub enum Line {
 
 const LONGEST_PAGE: u64 = 4096;
 
+/// Of each list of an `allow` line.
+const LONGEST_LIST: usize = 1024;
+
 pub fn read(line: &[u8]) -> Line {
     if line.first() == Some(&b'#') {
         return Line::PassedOver;
@@ -59,6 +62,11 @@ fn event(name: &[u8], arguments: &[&[u8]]) -> Option<Event> {
             if_set: flag(i)?,
             shadow: flag(s)?,
             page: page(length, bytes)?,
+        }),
+        (b"allow", [v, length, fill, values @ ..]) => Some(Event::Allow {
+            vcpu: number32(v)?,
+            values: values32(values)?,
+            codes: filled(length, fill)?,
         }),
         _ => None,
     }
@@ -112,4 +120,20 @@ fn page(length: &[u8], bytes: &[&[u8]]) -> Option<Vec<u8>> {
         page[offset as usize] = byte;
     }
     Some(page)
+}
+
+fn values32(words: &[&[u8]]) -> Option<Vec<u32>> {
+    if words.len() > LONGEST_LIST {
+        return None;
+    }
+    words.iter().map(|word| number32(word)).collect()
+}
+
+/// A list of that length, the same number throughout.
+fn filled(length: &[u8], fill: &[u8]) -> Option<Vec<u32>> {
+    let (length, fill) = (number(length)?, number32(fill)?);
+    if length > LONGEST_LIST as u64 {
+        return None;
+    }
+    Some(vec![fill; length as usize])
 }

@@ -5,7 +5,7 @@ mod common;
 use common::*;
 use reference::calls::call;
 use reference::codes::*;
-use reference::events::{entry, hand_back, non_delivery, notice};
+use reference::events::{allow, entry, hand_back, non_delivery, notice};
 use reference::registers::{kind, Kind};
 use reference::state::{Module, Phase};
 
@@ -127,7 +127,7 @@ fn what_call_4_takes() {
     }
 }
 
-/// 11.12 to 11.17, 11.19
+/// 11.12 to 11.17, 11.19; lists (A5)
 #[test]
 fn the_order_of_the_checks() {
     let mut m = fresh(2, 1);
@@ -150,6 +150,9 @@ fn the_order_of_the_checks() {
     assert_eq!(call(&mut m, 0, 5, 0x7FF, u64::MAX), Err(UNKNOWN_CALL));
     assert_eq!(call(&mut m, 0, 3, 0x7FF, u64::MAX), Err(BAD_REGISTER));
     assert_eq!(call(&mut m, 0, 3, 0x802, 0), Err(BAD_VALUE));
+    assert_eq!(allow(&mut m, 2, &[0x11E], &mut []), Err(UNKNOWN_VCPU));
+    assert_eq!(allow(&mut m, 1, &[0x11E], &mut []), Err(NOT_ACTIVE));
+    assert_eq!(allow(&mut m, 0, &[0x11E], &mut []), Err(BAD_LIST));
     assert_eq!(m, before);
 }
 
@@ -163,6 +166,7 @@ fn no_event_works_on_a_vcpu_that_has_left() {
     assert_eq!(call(&mut m, 0, 0, 0, 0), Err(NOT_ACTIVE));
     assert_eq!(entry(&mut m, 0, true, false, false), Err(NOT_ACTIVE));
     assert_eq!(non_delivery(&mut m, 0), Err(NOT_ACTIVE));
+    assert_eq!(allow(&mut m, 0, &[], &mut []), Err(NOT_ACTIVE));
     assert_eq!(
         hand_back(&mut m, 0, &mut page(&[]), true, true),
         Err(NOT_LEAVING)

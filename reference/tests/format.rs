@@ -124,6 +124,89 @@ fn pages() {
     }
 }
 
+/// A list of values, its second list as long as LENGTH says and FILL throughout (A5).
+#[test]
+fn lists_of_values() {
+    let event = Event::Allow {
+        vcpu: 1,
+        values: vec![0x141, 0x11E, u32::MAX],
+        codes: vec![7; 4],
+    };
+    for line in [
+        "allow 1 4 7 0x141 0x11e 0xffffffff",
+        " allow  01 0x4  0x07 321 0x0000000000000011E   4294967295 ",
+    ] {
+        assert_eq!(read(line.as_bytes()), Line::Event(event.clone()), "{line}");
+    }
+    assert_eq!(event.to_string(), "allow 1 4 0x7 0x141 0x11e 0xffffffff");
+    let empty = |fill: u32, length: usize| {
+        Line::Event(Event::Allow {
+            vcpu: u32::MAX,
+            values: vec![],
+            codes: vec![fill; length],
+        })
+    };
+    assert_eq!(read(b"allow 0xffffffff 0 9"), empty(9, 0));
+    let longest = b"allow 4294967295 1024 0xffffffff";
+    assert_eq!(read(longest), empty(u32::MAX, 1024));
+    let values = |count: usize| format!("allow 0 0 0{}", " 321".repeat(count));
+    assert!(readable(&values(1024)));
+    let bad = [
+        "allow",
+        "allow 0",
+        "allow 0 1",
+        "allow 0 1025 0",
+        "allow 0 1025 0 0x141",
+        "allow 0 0x10000000000000001 0",
+        "allow 4294967296 1 0 0x141",
+        "allow 0 1 4294967296 0x141",
+        "allow 0 1 0 4294967296",
+        "allow 0 1 0 0x100000141",
+        "allow 0 2 0 0x141 0x1g1",
+        "allow 0 2 0 0x141 -1",
+        "allow 0 4 0 3=1",
+        "allow 0 1 0 0x141\r",
+        "Allow 0 1 0 0x141",
+        &values(1025),
+    ];
+    for line in bad {
+        assert_eq!(read(line.as_bytes()), Line::Unreadable, "{line}");
+    }
+}
+
+/// Every entry of the second list is printed, of a refused event too.
+#[test]
+fn list_lines() {
+    let trace = "start 1 1\nallow 0 4 0xffffffff 0x141 0x11e 0x161\nallow 0 2 0x1A 0x151\n\
+        allow 0 0 5\nallow 0 3 0\nallow 0 1 9 0x151 0x051\nallow 1 2 0xabc 0x151\n\
+        allow 0 2 0 0x151 0x100000000\nallow 0 2\ncall 0 1 1 0\nallow 0 1 0x10 0x151\nstate\n";
+    let output = "start ok\nallow ok 0x0 codes 0x0 0x80000005 0x0 0xffffffff\n\
+        allow ok 0x0 codes 0x0 0x1a\nallow ok 0x0 codes\nallow ok 0x0 codes 0x0 0x0 0x0\n\
+        allow refused 0x6 codes 0x9\nallow refused 0x1 codes 0xabc 0xabc\nerror line 8\n\
+        error line 9\ncall ok 0x0\nallow refused 0x80000001 codes 0x10\n\
+        module n=0x1 vmpl=0x1 count=0x0\n\
+        vcpu 0x0 phase=leaving flight=nothing nmi=0x0 tpr=0x0 icr=0x0 \
+        allowed={0x41,0x51,0x61} pending={} service={} pending_level={} serving_level={} mc=0x0\n";
+    assert_eq!(play_text(trace.as_bytes()), output);
+}
+
+/// 256 values are played and 257 refused; 1,025 are no list, whatever else is wrong.
+#[test]
+fn long_lists() {
+    let list = |count: usize| format!("allow 0 {count} 1{}\n", " 0x141".repeat(count));
+    let long = format!("allow 0 1024 1{}\n", " 0x141".repeat(1025));
+    let trace = ["start 1 1\n", &list(256), &list(257), &list(1024), &long].concat();
+    let codes = |code: &str, count: usize| format!(" {code}").repeat(count);
+    let output = format!(
+        "start ok\nallow ok 0x0 codes{}\nallow refused 0x6 codes{}\nallow refused 0x6 codes{}\n\
+         error line 5\n",
+        codes("0x0", 256),
+        codes("0x1", 257),
+        codes("0x1", 1024)
+    );
+    assert_eq!(play_text(trace.as_bytes()), output);
+}
+
 #[test]
 fn long_lines() {
     let padded = |text: &str, length: usize| format!("{text}{}", " ".repeat(length - text.len()));

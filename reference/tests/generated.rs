@@ -1,19 +1,23 @@
 //! Generated traces, and that the check of demand 3 finds wrong gates.
 
+mod common;
+
 use std::collections::BTreeSet;
 
+use common::answers_differ;
 use reference::coverage::Coverage;
 use reference::demand3::{check, Gate};
 use reference::events::{step, Admission, Answer, Event, Shown};
 use reference::generate::{generate, lists};
 use reference::ipi::Ipi;
-use reference::merging::Merging;
+use reference::machine_checks;
+use reference::merging::{Merging, REQUESTS};
 use reference::page::{admitted, announces, bit, clear_bit, set_bit};
 use reference::play::play_text;
-use reference::print;
 use reference::set::VectorSet;
 use reference::state::{items, Item, Module, Phase, Record};
 use reference::trace::{read, Line};
+use reference::value_lists;
 
 const PRESENTED_MC: Shown = Shown::Presented(Item::MachineCheck);
 
@@ -51,18 +55,61 @@ fn everything_occurs() {
     assert!(coverage.complete(), "{}", coverage.report());
 }
 
-/// Requests meet their item pending in every way, and often.
+/// Requests meet their item pending in every way, and often; lists of values are of every kind (A5).
 #[test]
 fn merging_occurs() {
+    let mut of_lists = value_lists::KINDS.map(|kind| (kind, 0));
     for seed in 0..4 {
         let trace = generated(seed, 15_000);
         let merging = Merging::of(&trace[..]).unwrap();
-        assert!(merging.fewest() >= 10, "{}", merging.report());
+        let kinds = [&REQUESTS[..], &machine_checks::KINDS].concat();
+        assert!(merging.fewest(&kinds) >= 10, "{}", merging.report());
+        for (kind, count) in &mut of_lists {
+            *count += merging.count(kind);
+        }
         let coverage = Coverage::of(play_text(&trace).as_bytes()).unwrap();
         for kind in ["notice ok, merged", "notice ok, new and merged"] {
             assert!(coverage.count(kind) >= 100, "{}", coverage.report());
         }
     }
+    let often = of_lists.iter().all(|(_, count)| *count >= 15);
+    assert!(often, "{of_lists:?}");
+}
+
+/// What a list leaves, said apart from call 4: of the accepted values for a vector the last one
+/// decides, and one accepted value is enough to forget what is in flight (A5).
+#[test]
+fn what_a_list_leaves() {
+    let mut m = Module::refused();
+    let mut played = 0;
+    for mut event in lists(9, 20_000).into_iter().flatten() {
+        let before = m.clone();
+        let written = event.clone();
+        let answer = step(&mut m, &mut event);
+        let (Event::Allow { vcpu, values, .. }, Answer::Allow(Ok(0))) = (written, answer) else {
+            continue;
+        };
+        let accepted = |ecx: u32| {
+            let v = ecx & 0xFF;
+            ecx & !0x1FF == 0 && (v == 2 || v == 18 || v > 30)
+        };
+        let mut expected = before.clone();
+        let record = expected.record_mut(vcpu);
+        for v in 0..256 {
+            let mut of_v = values.iter().rev().filter(|&&ecx| ecx & 0xFF == v);
+            match of_v.find(|&&ecx| accepted(ecx)) {
+                Some(ecx) if ecx & 0x100 != 0 => record.allowed.put(v as usize),
+                Some(_) => record.allowed.take(v as usize),
+                None => {}
+            }
+        }
+        if values.iter().any(|&ecx| accepted(ecx)) {
+            record.flight = None;
+        }
+        assert_eq!(m, expected);
+        played += 1;
+    }
+    assert!(played > 300);
 }
 
 #[test]
@@ -374,17 +421,6 @@ fn a_hand_back_reads_back() {
     for gate in [hands_back_no_bit_9, keeps_the_mark_handed_back] {
         assert!(read_back(gate).1 > 10);
     }
-}
-
-/// The events are answered by a gate and by the reference, each on its own module; whether a line that
-/// would be printed differs. Modules are not compared: a difference must come to show in an answer.
-fn answers_differ(gate: Gate) -> bool {
-    let (mut ours, mut theirs) = (Module::refused(), Module::refused());
-    lists(6, 20_000).into_iter().flatten().any(|event| {
-        let (mut one, mut other) = (event.clone(), event);
-        let (a, b) = (gate(&mut ours, &mut one), step(&mut theirs, &mut other));
-        print::answer(&one, &a) != print::answer(&other, &b)
-    })
 }
 
 /// Against 8.17: the NMI goes first where nothing holds it back.

@@ -6,7 +6,9 @@ use common::*;
 use reference::calls::call;
 use reference::codes::*;
 use reference::demand3::{played, remaining};
-use reference::events::{entry, hand_back, non_delivery, notice, step, Answer, Event, Shown};
+use reference::events::{
+    allow, entry, hand_back, non_delivery, notice, step, Answer, Event, Shown,
+};
 use reference::icr;
 use reference::page::{admitted, set_bit};
 use reference::set::VectorSet;
@@ -26,6 +28,7 @@ fn every_event_is_unknown(m: &mut Module, vcpu: u32) {
     assert_eq!(call(m, vcpu, 0, 0, 0), Err(UNKNOWN_VCPU));
     assert_eq!(entry(m, vcpu, true, false, false), Err(UNKNOWN_VCPU));
     assert_eq!(non_delivery(m, vcpu), Err(UNKNOWN_VCPU));
+    assert_eq!(allow(m, vcpu, &[0x141], &mut [0]), Err(UNKNOWN_VCPU));
     assert_eq!(
         hand_back(m, vcpu, &mut page(&[]), true, false),
         Err(UNKNOWN_VCPU)

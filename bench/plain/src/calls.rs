@@ -1,6 +1,6 @@
 //! Guest calls (sections 5 to 7).
 
-use crate::{highest, place, priority_class, InFlight, Module, Outcome, Phase, Refusal, Vcpu};
+use crate::{highest, place, priority_class, InFlight, Module, Outcome, Phase, Refusal, Set, Vcpu};
 
 const ID: u32 = 0x802;
 const TPR: u32 = 0x808;
@@ -35,7 +35,8 @@ pub fn call(m: &mut Module, vcpu: u32, call: u32, ecx: u32, rdx: u64) -> Outcome
         2 => read(v, vcpu, ecx),
         3 if ecx == ICR => return write_icr(m, vcpu, rdx),
         3 => write(v, vcpu, ecx, rdx),
-        4 => permission(v, ecx),
+        4 if permit(&mut v.allowed, ecx) => Outcome::Done(0),
+        4 => BAD,
         _ => Outcome::Refused(Refusal::UnknownCall),
     };
     if let Outcome::Done(_) = outcome {
@@ -60,19 +61,49 @@ fn registration(registrations: &mut u8, v: &mut Vcpu, ecx: u32) -> Outcome {
     Outcome::Done(0)
 }
 
-/// 5.15 to 5.20
-fn permission(v: &mut Vcpu, ecx: u32) -> Outcome {
+/// A list of values for call 4, a code for each (A5)
+#[inline(never)]
+#[export_name = "plain::allow"]
+pub fn allow(m: &mut Module, vcpu: u32, values: &[u32], codes: &mut [u32]) -> Outcome {
+    if !m.has(vcpu) {
+        return Outcome::Refused(Refusal::UnknownVcpu);
+    }
+    let v = &mut m.vcpus[vcpu as usize];
+    if v.phase != Phase::Active {
+        return Outcome::Refused(Refusal::NotActive);
+    }
+    if values.len() > 256 || codes.len() < values.len() {
+        return Outcome::Refused(Refusal::BadList);
+    }
+    let mut accepted = false;
+    for (&ecx, code) in values.iter().zip(codes) {
+        *code = if permit(&mut v.allowed, ecx) {
+            accepted = true;
+            0
+        } else {
+            Refusal::BadParameter as u32
+        };
+    }
+    if accepted {
+        v.flight = InFlight::Nothing;
+    }
+    Outcome::Done(0)
+}
+
+/// 5.15 to 5.18: is the value one that call 4 takes? If so, the set follows it. Few vectors are under 31, so that is asked first.
+#[inline]
+fn permit(allowed: &mut Set, ecx: u32) -> bool {
     let vector = ecx as u8;
-    if ecx >= 512 || !matches!(vector, 2 | 18 | 31..) {
-        return BAD;
+    if ecx >= 512 || vector < 31 && vector != 2 && vector != 18 {
+        return false;
     }
     let (w, bit) = place(vector);
     if ecx >= 256 {
-        v.allowed[w] |= bit;
+        allowed[w] |= bit;
     } else {
-        v.allowed[w] &= !bit;
+        allowed[w] &= !bit;
     }
-    Outcome::Done(0)
+    true
 }
 
 /// 6.3 to 6.20

@@ -1,12 +1,12 @@
 //! The gate in plain Rust, in place: what `bench/run` measures the proved functions against. Written from
 //! `docs/SPECIFICATION.md` (4.17 is a clause there), with the state and the answers of `crates/model`, and for speed:
-//! words and masks, and nothing is stored but what changes. The five events are not inlined and have names that callgrind
+//! words and masks, and nothing is stored but what changes. The six events are not inlined and have names that callgrind
 //! finds.
 
 mod calls;
 mod pages;
 
-pub use calls::call;
+pub use calls::{allow, call};
 pub use pages::{hand_back, notice};
 
 /// 256 bits, the lowest vectors first (2.7).
@@ -60,6 +60,7 @@ pub enum Refusal {
     NotLeaving = 3,
     NothingInFlight = 4,
     BadStart = 5,
+    BadList = 6,
     NotActive = 0x8000_0001,
     UnknownCall = 0x8000_0002,
     BadRegister = 0x8000_0003,

@@ -1,5 +1,5 @@
 //! The loop of `bench/run` over one kind of event; `../loop.rattle` is the same over the proved functions. What both
-//! print must be equal: the last answer, and digests of all answers and of the module and the page afterwards.
+//! print must be equal: the last answer, and digests of all answers and of the module, the page and the codes afterwards.
 
 use plain::{Admission, InFlight, Module, Outcome, Phase, Presentation, Refusal, Vcpu};
 use std::io::Read;
@@ -11,7 +11,8 @@ struct Given {
     plays: u64,
     n: u32,
     vmpl: u32,
-    /// 0 entry, 1 notice of one vector, 2 notice of many, 3 call, 4 non-delivery, 5 hand-back
+    /// 0 entry, 1 notice of one vector, 2 notice of many, 3 call, 4 non-delivery, 5 hand-back,
+    /// 6 list of RDX values from ECX on, 7 the same values by a call each
     kind: u64,
     /// Word 2 of the IRR and of the ISR, and byte 0 of the descriptor.
     pending: u32,
@@ -103,13 +104,16 @@ fn mix_vcpu(mut digest: u64, v: &Vcpu) -> u64 {
     digest
 }
 
-fn digest_of(m: &Module, page: &[u8; 256]) -> u64 {
+fn digest_of(m: &Module, page: &[u8; 256], codes: &[u32; 256]) -> u64 {
     let mut digest = mix(0, u64::from(m.registrations));
     for v in &m.vcpus {
         digest = mix_vcpu(digest, v);
     }
     for &byte in page {
         digest = mix(digest, u64::from(byte));
+    }
+    for &code in codes {
+        digest = mix(digest, u64::from(code));
     }
     digest
 }
@@ -130,16 +134,33 @@ fn lay_out(g: &Given, v: &mut Vcpu, page: &mut [u8; 256]) {
         }
         4 => v.flight = InFlight::Vector(g.vector),
         5 => v.phase = Phase::Leaving,
+        6 | 7 => v.allowed = [0; 8],
         _ => {}
     }
 }
 
-fn play(g: &Given, m: &mut Module, k: u32, page: &mut [u8; 256]) -> u64 {
+fn call_each(g: &Given, m: &mut Module, k: u32, values: &[u32], codes: &mut [u32]) -> u64 {
+    for (&ecx, code) in values.iter().zip(codes) {
+        *code = outcome(plain::call(m, k, g.call, ecx, 0)) as u32;
+    }
+    0
+}
+
+fn play(
+    g: &Given,
+    m: &mut Module,
+    k: u32,
+    page: &mut [u8; 256],
+    values: &[u32],
+    codes: &mut [u32],
+) -> u64 {
     match g.kind {
         0 => presentation(plain::entry(m, k, g.iflag, false, false)),
         1 | 2 => admission(plain::notice(m, k, page)),
         3 => outcome(plain::call(m, k, g.call, g.ecx, g.rdx)),
         4 => outcome(plain::non_delivery(m, k)),
+        6 => outcome(plain::allow(m, k, values, codes)),
+        7 => call_each(g, m, k, values, codes),
         _ => outcome(plain::hand_back(m, k, page, g.iflag, false)),
     }
 }
@@ -151,14 +172,18 @@ fn main() {
         v.allowed = [u32::MAX; 8];
     }
     let mut page = [0; 256];
+    let values: Vec<u32> = (0..g.rdx as u32 % 257)
+        .map(|i| g.ecx.wrapping_add(i))
+        .collect();
+    let mut codes = [u32::MAX; 256];
     let (mut last, mut answers) = (0, 0);
     for i in 0..g.count {
         let k = (i % 32) as u32;
         lay_out(&g, &mut m.vcpus[k as usize], &mut page);
         if g.plays == 1 {
-            last = play(&g, &mut m, k, &mut page);
+            last = play(&g, &mut m, k, &mut page, &values, &mut codes);
             answers = mix(answers, last);
         }
     }
-    println!("{last}\n{answers}\n{}", digest_of(&m, &page));
+    println!("{last}\n{answers}\n{}", digest_of(&m, &page, &codes));
 }

@@ -1,4 +1,4 @@
-//! The plain gate against `reference`, on its generated events: every answer, page and module.
+//! The plain gate against `reference`, on its generated events: every answer, page, second list and module.
 
 use plain::{InFlight, Outcome, Presentation, Set};
 use reference::events::{step, Admission, Answer, Event, Shown};
@@ -103,6 +103,11 @@ fn played(m: &mut plain::Module, event: &mut Event) -> Answer {
             shadow,
             page,
         } => Answer::HandBack(small(plain::hand_back(m, *vcpu, page, *if_set, *shadow))),
+        Event::Allow {
+            vcpu,
+            values,
+            codes,
+        } => Answer::Allow(small(plain::allow(m, *vcpu, values, codes))),
     }
 }
 
@@ -121,12 +126,81 @@ fn agrees_on_generated_events() {
                 expected,
                 "seed {seed}, event {i}: {written}"
             );
-            assert_eq!(event, same, "the page, seed {seed}, event {i}: {written}");
+            assert_eq!(
+                event, same,
+                "the page or second list, seed {seed}, event {i}: {written}"
+            );
             assert_eq!(
                 module(&ours),
                 theirs,
                 "the module, seed {seed}, event {i}: {written}"
             );
+        }
+    }
+}
+
+/// Every value below 1,024 and some above, by a list and by so many calls: the same codes and the same record.
+#[test]
+fn a_list_is_its_single_calls() {
+    let high = [0x8000_0141, u32::MAX, 0x1_0141];
+    let values: Vec<u32> = (0..1024).rev().chain(high).collect();
+    let (mut one, mut other) = (plain::start(2, 1).1, plain::start(2, 1).1);
+    for part in values.chunks(200) {
+        let mut codes = vec![7; part.len() + 1];
+        assert_eq!(
+            plain::allow(&mut one, 1, part, &mut codes),
+            Outcome::Done(0)
+        );
+        for (&ecx, &code) in part.iter().zip(&codes) {
+            let single = small(plain::call(&mut other, 1, 4, ecx, 0));
+            assert_eq!(single.err().unwrap_or(0), code, "{ecx:#x}");
+        }
+        assert_eq!(codes[part.len()], 7);
+        assert_eq!(module(&one), module(&other));
+    }
+}
+
+/// A list event, played by both: the same answer, second list and module.
+fn agrees(ours: &mut plain::Module, vcpu: u32, values: &[u32], length: usize) {
+    let mut event = Event::Allow {
+        vcpu,
+        values: values.to_vec(),
+        codes: vec![7; length],
+    };
+    let (mut after, mut same) = (module(ours), event.clone());
+    let expected = step(&mut after, &mut same);
+    assert_eq!(played(ours, &mut event), expected);
+    assert_eq!(event, same);
+    assert_eq!(module(ours), after);
+}
+
+/// Sizes of both lists at the borders of the rule.
+fn agrees_on_sizes(flight: InFlight, vcpu: u32) {
+    let values: Vec<u32> = (0..300)
+        .map(|k| if k % 3 == 0 { 30 } else { 0x11F + k % 225 })
+        .collect();
+    for count in [0, 1, 2, 3, 255, 256, 257, 300] {
+        for length in [0, count.max(1) - 1, count, count + 1, 400] {
+            let mut ours = plain::start(3, 2).1;
+            ours.vcpus[0].flight = flight;
+            ours.vcpus[1].phase = plain::Phase::Leaving;
+            ours.vcpus[2].phase = plain::Phase::Left;
+            agrees(&mut ours, vcpu, &values[..count], length);
+        }
+    }
+}
+
+/// With each kind of item in flight and with none; vCPUs that are active, leaving, left and unknown.
+#[test]
+fn agrees_on_the_borders_of_lists() {
+    for flight in [
+        InFlight::Nothing,
+        InFlight::MachineCheck,
+        InFlight::Nmi,
+        InFlight::Vector(0x41),
+    ] {
+        for vcpu in [0, 1, 2, 3, u32::MAX] {
+            agrees_on_sizes(flight, vcpu);
         }
     }
 }

@@ -6,6 +6,7 @@
 
 mod calls;
 mod pages;
+mod value_lists;
 
 use std::collections::VecDeque;
 use std::io::{Result, Write};
@@ -22,17 +23,17 @@ const CORNERS: [usize; 15] = [
 ];
 
 /// How often each kind of event comes in one list, in the order of `Generator::choose`.
-type Style = [usize; 11];
+type Style = [usize; 12];
 
 const STYLES: [Style; 4] = [
     // A busy guest.
-    [26, 5, 14, 9, 9, 1, 28, 4, 1, 2, 0],
+    [26, 5, 14, 9, 9, 1, 28, 4, 1, 2, 0, 4],
     // A host that sends all the time.
-    [60, 3, 8, 3, 6, 0, 20, 3, 0, 1, 0],
+    [60, 3, 8, 3, 6, 0, 20, 3, 0, 1, 0, 3],
     // A guest that tries registers and calls.
-    [8, 20, 25, 20, 8, 2, 12, 2, 1, 4, 0],
+    [8, 20, 25, 20, 8, 2, 12, 2, 1, 4, 0, 6],
     // vCPUs that leave and are handed back.
-    [20, 4, 8, 8, 8, 4, 22, 4, 6, 2, 8],
+    [20, 4, 8, 8, 8, 4, 22, 4, 6, 2, 8, 5],
 ];
 
 const LEAVING: usize = 3;
@@ -122,16 +123,12 @@ impl Generator {
     /// The guest allows most of the pool at first; rarely everything, or it registers to the full.
     fn open_list(&mut self, n: u32) {
         for vcpu in self.focus.clone() {
-            for v in self.pool.clone() {
-                if self.random.chance(75) {
-                    self.queue.push_back(calls::allow(vcpu, v, true));
-                }
-            }
-            for v in [2, 18] {
-                if self.random.chance(60) {
-                    self.queue.push_back(calls::allow(vcpu, v, true));
-                }
-            }
+            let mut vectors = self.pool.clone();
+            vectors.retain(|_| self.random.chance(75));
+            let mut marked = vec![2, 18];
+            marked.retain(|_| self.random.chance(60));
+            vectors.extend(marked);
+            self.allow_these(vcpu, &vectors);
         }
         if n <= 2 && self.random.chance(6) {
             self.allow_everything();
@@ -140,9 +137,8 @@ impl Generator {
     }
 
     fn allow_everything(&mut self) {
-        for v in [2, 18].into_iter().chain(31..=255) {
-            self.queue.push_back(calls::allow(0, v, true));
-        }
+        let every: Vec<usize> = [2, 18].into_iter().chain(31..=255).collect();
+        self.allow_these(0, &every);
         let full = self.full_page();
         self.queue.push_back(Event::Notice {
             vcpu: 0,
@@ -172,7 +168,8 @@ impl Generator {
             7 => Event::NonDelivery { vcpu },
             8 => self.hand_back(),
             9 => self.odd_call(vcpu),
-            _ => self.farewell(),
+            10 => self.farewell(),
+            _ => self.value_list(vcpu),
         }
     }
 
@@ -230,6 +227,7 @@ impl Generator {
             self.entry(vcpu),
             Event::NonDelivery { vcpu },
             self.hand_back(),
+            self.value_list(vcpu),
         ];
         self.queue
             .extend(late.into_iter().filter(|_| self.random.chance(25)));
@@ -257,6 +255,7 @@ impl Generator {
             (_, Answer::Call(Ok(named)), Some(ipi)) if *named > 0 => {
                 self.after_sending(event, ipi.item, named.ilog2());
             }
+            (Event::Allow { vcpu, values, .. }, _, _) => self.after_listing(*vcpu, values),
             _ => {}
         }
     }
@@ -318,7 +317,7 @@ impl Generator {
 
     /// A non-delivery, sometimes with something between the entry and it.
     fn intercepted(&mut self, vcpu: u32, item: Item) {
-        let between = match self.random.weighted(&[2, 1, 1, 1, 2]) {
+        let between = match self.random.weighted(&[2, 1, 1, 1, 2, 2]) {
             0 => Some(Event::Notice {
                 vcpu,
                 page: self.page_with(vcpu, item),
@@ -326,6 +325,7 @@ impl Generator {
             1 => Some(self.send_to(vcpu, item)),
             2 => Some(self.odd_call(vcpu)),
             3 => Some(self.read(vcpu)),
+            4 => Some(self.list_in_flight(vcpu)),
             _ => None,
         };
         self.queue.extend(between);

@@ -3,7 +3,10 @@
 
 use reference::calls::call;
 use reference::codes::Code;
-use reference::events::{notice, Admission};
+use reference::demand3::Gate;
+use reference::events::{notice, step, Admission};
+use reference::generate::lists;
+use reference::print;
 use reference::set::VectorSet;
 use reference::state::{start, Module, Record};
 
@@ -62,3 +65,14 @@ pub const REGISTER: u32 = 2;
 
 /// The ways in which ICR bits 14 and 15 can stand (7.5).
 pub const BITS_14_AND_15: [u64; 4] = [0, 0x4000, 0x8000, 0xC000];
+
+/// The events are answered by a gate and by the reference, each on its own module; whether a line that
+/// would be printed differs. Modules are not compared: a difference must come to show in an answer.
+pub fn answers_differ(gate: Gate) -> bool {
+    let (mut ours, mut theirs) = (Module::refused(), Module::refused());
+    lists(6, 20_000).into_iter().flatten().any(|event| {
+        let (mut one, mut other) = (event.clone(), event);
+        let (a, b) = (gate(&mut ours, &mut one), step(&mut theirs, &mut other));
+        print::answer(&one, &a) != print::answer(&other, &b)
+    })
+}

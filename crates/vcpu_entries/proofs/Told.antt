@@ -9,7 +9,7 @@ use Rattle.model.proofs.Presentation as presentation
 use Rattle.model.specs.declared.Presentation.{Presentation}
 use Rattle.model.specs.declared.Presentation.the-variants as shown
 use Rattle.model.specs.declared.Vcpu.{Vcpu}
-use Rattle.model.specs.Codes.{Result, done, counted, answers, refused, presentedResult}
+use Rattle.model.specs.Codes.{Result, done, counted, coded, answers, refused, presentedResult}
 use Rattle.model.specs.Events.{entered}
 use Rattle.vector_set.proofs.Laws.{clash}
 use Rattle.vcpu.specs.Records.{VcpuOut}
@@ -22,6 +22,7 @@ outOf r v = record { result = r; vcpu = v }
 abbrev pub after : Result → Vcpu → Vcpu
 after (done x) v = v
 after (counted x y) v = v
+after (coded x ks) v = v
 after (answers o) v = entered o v
 after (refused c) v = v
 

@@ -282,7 +282,6 @@ module _ (j : ℕ) (x : Item) (r : InRange x) (c : ℕ) where
         rw (vcpuAt-count)
         (on-put m i (emptied (vcpuAt m i)) j (known-of m i (handBack p iF sh) e .there) (λ _ b u v. Covers u g → Covers v g)
         (λ q. cover-emptied (vcpuAt m i) g q) (λ q. q) h)
-
     cover-at i (allow cs q) e =
         rw (vcpuAt-count)
         (on-put m i (listAfter i (m .registrations) cs (vcpuAt m i)) j (known-of m i (allow cs q) e .there) (λ _ b u v. Covers u g → Covers v g)

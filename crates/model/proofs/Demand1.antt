@@ -218,7 +218,6 @@ verdict-causes m i nonDelivery =
 verdict-causes m i (handBack p iF sh) =
     rw (has-size m i, ltb-leb (length p) 256)
     (needs (ltb i (size m)) UnknownVcpu _ _ (needs (isLeaving (vcpuAt m i .phase)) NotLeaving _ _ (needs (leb 256 (length p)) ShortPage accept none refl)))
-
 verdict-causes m i (allow cs q) =
     rw (has-size m i, ltb-leb 256 (length cs), ltb-leb (length q) (length cs))
     (needs (ltb i (size m)) UnknownVcpu _ _

@@ -158,8 +158,10 @@ module _ (m : Module) (i : ℕ) (cs q : List ℕ) where
   is-active e = needed (isActive (v .phase)) NotActive _ e .0
 
   by-list : (g : Verdict) → verdictOn ≡ g
-      → listedOut (record { outcome = listedOn g cs (v .allowed) .outcome;
-        after = afterList (listedOn g cs (v .allowed) .changes) (listedOn g cs (v .allowed) .allowed) i m })
+      → listedOut (record {
+        outcome = listedOn g cs (v .allowed) .outcome;
+        after = afterList (listedOn g cs (v .allowed) .changes) (listedOn g cs (v .allowed) .allowed) i m;
+      })
       cs (pageOn g (codesIn cs q) q)
       ≡ decided g m (at i (allow cs q))
   unfolding listedOn pageOn

@@ -170,10 +170,10 @@ checked =
     ∷ []
 
 -- ---- lists of ECX values among other events (14.80)
--- 0x41 in, 30, the NMI's member in
+-- 0x41 out and in, 30, the NMI's member in
 abbrev valueStory : List Event
 valueStory =
-    at 0 (allow (0x141 ∷ 0x11E ∷ 0x102 ∷ []) (9 ∷ 9 ∷ 9 ∷ 9 ∷ []))
+    at 0 (allow (0x041 ∷ 0x141 ∷ 0x11E ∷ 0x102 ∷ []) (9 ∷ 9 ∷ 9 ∷ 9 ∷ 9 ∷ []))
     ∷ at 0 (notice byte64)
     ∷ enters true false false
     ∷ at 0 (allow (0x11E ∷ []) (9 ∷ []))
@@ -194,7 +194,7 @@ valueStory =
 unfoldable pub valued : List Bool
 valued =
     sameResults (results (start 1 1) valueStory)
-    (coded 0 (0 ∷ 0x80000005 ∷ 0 ∷ []) ∷ counted 1 0 ∷ shown41 ∷ coded 0 (0x80000005 ∷ []) ∷ done 0 ∷ shown41 ∷ coded 0 (0x80000005 ∷ 0 ∷ [])
+    (coded 0 (0 ∷ 0 ∷ 0x80000005 ∷ 0 ∷ []) ∷ counted 1 0 ∷ shown41 ∷ coded 0 (0x80000005 ∷ []) ∷ done 0 ∷ shown41 ∷ coded 0 (0x80000005 ∷ 0 ∷ [])
     ∷ refused 4 ∷ counted 0 0 ∷ refused 6 ∷ counted 0 0 ∷ counted 1 0 ∷ refused 1 ∷ done 0 ∷ refused 0x80000001 ∷ done 65537 ∷ [])
     ∷ samePages (pages (start 1 1) valueStory) (set (set zeros 65 0x01) 104 0x02 ∷ [])
     ∷ eqb (length (struck valueStory)) 12

@@ -19,7 +19,7 @@ pub fn allow(m: Module, vcpu: u32, values: &[u32], codes: &mut [u32]) -> Stepped
     let allowed = v.allowed;
     let listed = vcpu_allow::allow_values(values, codes, phase, allowed);
     let outcome = listed.outcome;
-    if !listed.changes {
+    if !listed.accepts {
         return Stepped { outcome, after: m };
     }
     let set = listed.allowed;

@@ -21,7 +21,7 @@ pub fn allow_in(m: &mut Module, vcpu: u32, values: &[u32], codes: &mut [u32]) ->
     let i = vcpu as usize;
     let v = m.vcpus[i];
     let listed = allow_values(values, codes, v.phase, v.allowed);
-    if !listed.changes {
+    if !listed.accepts {
         return listed.outcome;
     }
     m.vcpus[i].allowed = listed.allowed;

@@ -170,7 +170,7 @@ checked =
     ∷ []
 
 -- ---- lists of ECX values among other events (14.80)
--- 0x41 out and in, 30, the NMI's member in
+-- the first has 0x41 out and in, 30, and the NMI's member in
 abbrev valueStory : List Event
 valueStory =
     at 0 (allow (0x041 ∷ 0x141 ∷ 0x11E ∷ 0x102 ∷ []) (9 ∷ 9 ∷ 9 ∷ 9 ∷ 9 ∷ []))

@@ -22,7 +22,7 @@ use Rattle.model.proofs.Reached.{AllSound, all-reached}
 use Rattle.model.proofs.ReadBack.{read-back}
 use Rattle.model.proofs.Kept.{keeps-level, calls-keep-level, calls-keep-pending, calls-keep-machine-checks}
 use Rattle.model.proofs.Kept.{keeps-inactive, keeps-others, keeps-beyond}
-use Rattle.model.proofs.Listed.{list-is-calls, list-codes, list-writes}
+use Rattle.model.proofs.Listed.{list-is-calls, list-gives, list-writes, permit-touches, list-touches}
 use Rattle.model.proofs.Called.{calls-forget, call-permits}
 use Rattle.model.proofs.IcrBits.{reserved, set-apart, same-delivery}
 use Rattle.model.proofs.IcrWrites.{same-write, icr-reads, icr-touches}
@@ -107,6 +107,8 @@ demand2 =
       machineCheckAdmitted = machine-check-admitted;
       callPermits = call-permits;
       listIsCalls = list-is-calls;
-      listCodes = list-codes;
+      listGives = list-gives;
       listWrites = list-writes;
+      permitTouches = permit-touches;
+      listTouches = list-touches;
     }

@@ -18,14 +18,14 @@ use Rattle.model.specs.declared.Request.the-variants as request
 use Rattle.model.specs.declared.Vcpu.{Vcpu}
 use Rattle.model.specs.declared.Module.{Module}
 use Rattle.model.specs.State.{isActive, size, vcpuAt, withVcpu}
-use Rattle.model.specs.Codes.{codeOf, Verdict, accept, refuse, need, verdictCode, Result, done, coded, refused, codeIn}
+use Rattle.model.specs.Codes.{codeOf, Verdict, accept, refuse, need, verdictCode, Result, done, coded, refused, accepted, codeIn}
 use Rattle.model.specs.Requests.{bad, nameable, permission, requestOf, forget, serve, callVerdict}
 use Rattle.model.specs.Events.{call, allow, at, Bytes, Event, listFits, vcpuVerdict, verdict, callEffect, single, byVerdict, singleAfter, listAfter}
 use Rattle.model.specs.Events.{listCodes, effect, Out, concluded, decided, step, next, run, final}
-use Rattle.model.specs.Demand2.{singles, codesOf}
-use Rattle.model.proofs.Stored.{get-put, put-same, put-put, put-length, size-put, count-same, by-verdict, Known, known-of}
+use Rattle.model.specs.Demand2.{singles, codesOf, permitsApart}
+use Rattle.model.proofs.Stored.{on-put, vcpuAt-count, served-known, get-put, put-same, put-put, put-length, size-put, count-same, by-verdict, Known, known-of}
 use Rattle.model.proofs.IcrWrites.{over, asks, by-request}
-use Rattle.model.proofs.ListLaws.{after-one}
+use Rattle.model.proofs.ListLaws.{after-one, after-each}
 
 -- ---- one value
 -- the result of a call 4 with the verdict g
@@ -156,16 +156,13 @@ list-is-calls m i x cs q l l′ =
     (unserved (ltb i (size m)) (isActive (vcpuAt m i .phase)) (listFits cs q) d h (rw (le-leb (length cs) 256 l, le-leb (length cs) (length q) l′)))))
     (λ h. count-same m i _ ∙ sym (all-after i x cs m (known-of m i (allow cs q) h)))
 
-same-coded : {r s : ℕ} {ks ls : List ℕ} → coded r ks ≡ coded s ls → (s ≡ r) × (ls ≡ ks)
-same-coded e = (cc, cc)
-
-pub list-codes : (m : Module) (i x : ℕ) (cs : List ℕ) (q : Bytes) (r : ℕ) (ks : List ℕ) → step m (at i (allow cs q)) .result ≡ coded r ks
-    → (r ≡ 0) × (ks ≡ codesOf m (singles i x cs))
+pub list-gives : (m : Module) (i x : ℕ) (cs : List ℕ) (q : Bytes) → accepted (step m (at i (allow cs q)) .result) ≡ true
+    → step m (at i (allow cs q)) .result ≡ coded 0 (codesOf m (singles i x cs))
 unfolding concluded effect
-list-codes m i x cs q r ks =
-    by-verdict m (at i (allow cs q)) (λ o. o .result ≡ coded r ks → (r ≡ 0) × (ks ≡ codesOf m (singles i x cs)))
+list-gives m i x cs q =
+    by-verdict m (at i (allow cs q)) (λ o. accepted (o .result) ≡ true → o .result ≡ coded 0 (codesOf m (singles i x cs)))
     (λ d h e. clash (cc))
-    (λ h e. (same-coded e .0, same-coded e .1 ∙ sym (all-codes i x cs m (known-of m i (allow cs q) h))))
+    (λ h e. ap (coded 0) (sym (all-codes i x cs m (known-of m i (allow cs q) h))))
 
 pub length-codes : (i k : ℕ) (cs : List ℕ) (v : Vcpu) → length (listCodes i k cs v) ≡ length cs
 unfolding listCodes
@@ -196,19 +193,21 @@ fits true true false d e = clash (cc)
 fits true false c d e = clash (cc)
 fits false b c d e = clash (cc)
 
-pub list-writes : (m : Module) (i : ℕ) (cs : List ℕ) (q : Bytes) (r : ℕ) (ks : List ℕ) → step m (at i (allow cs q)) .result ≡ coded r ks
+pub list-writes : (m : Module) (i x : ℕ) (cs : List ℕ) (q : Bytes) → accepted (step m (at i (allow cs q)) .result) ≡ true
     → (length (step m (at i (allow cs q)) .page) ≡ length q)
-    × ((j : ℕ) → getD (step m (at i (allow cs q)) .page) j 0 ≡ cond (ltb j (length cs)) (getD ks j 0) (getD q j 0))
+    × ((j : ℕ) → getD (step m (at i (allow cs q)) .page) j 0 ≡ cond (ltb j (length cs)) (getD (codesOf m (singles i x cs)) j 0) (getD q j 0))
 unfolding verdict vcpuVerdict concluded effect
-list-writes m i cs q r ks =
+list-writes m i x cs q =
     by-verdict m (at i (allow cs q))
-    (λ o. o .result ≡ coded r ks
-    → (length (o .page) ≡ length q) × ((j : ℕ) → getD (o .page) j 0 ≡ cond (ltb j (length cs)) (getD ks j 0) (getD q j 0)))
+    (λ o. accepted (o .result) ≡ true
+    → (length (o .page) ≡ length q)
+    × ((j : ℕ) → getD (o .page) j 0 ≡ cond (ltb j (length cs)) (getD (codesOf m (singles i x cs)) j 0) (getD q j 0)))
     (λ d h e. clash (cc))
     (λ h e. (
       ap (λ (n : ℕ). length (codes ++ drop n q)) (sym (length-codes i k cs v)) ∙ written-length codes q (room h),
       λ j. ap (λ (n : ℕ). getD (codes ++ drop n q) j 0) (sym (length-codes i k cs v)) ∙ written-at codes q j (room h)
-          ∙ ap₂ (λ (n : ℕ) (l : List ℕ). cond (ltb j n) (getD l j 0) (getD q j 0)) (length-codes i k cs v) (sym (same-coded e .1)),
+          ∙ ap₂ (λ (n : ℕ) (l : List ℕ). cond (ltb j n) (getD l j 0) (getD q j 0)) (length-codes i k cs v)
+          (sym (all-codes i x cs m (known-of m i (allow cs q) h))),
     ))
   where
     k : ℕ
@@ -224,3 +223,43 @@ list-writes m i cs q r ks =
     room h =
         let l = leb-true (length cs) (length q) (fits (ltb i (size m)) (isActive (v .phase)) (leb (length cs) 256) (leb (length cs) (length q)) h) in
         subst (λ (n : ℕ). n ≤ length q) (sym (length-codes i k cs v)) l
+
+-- ---- what call 4 and a list leave alone
+apart-permitted : (c : ℕ) (n t : Bool) (i k : ℕ) (v : Vcpu) → permitsApart (callEffect (permission-by c n t) i k v .vcpu) ≡ permitsApart v
+unfolding callEffect serve
+apart-permitted c true true i k v = refl
+apart-permitted c true false i k v = refl
+apart-permitted c false t i k v = refl
+
+apart-single : (i k : ℕ) (w : Vcpu) (c : ℕ) (v : Vcpu) → permitsApart v ≡ permitsApart w → permitsApart (callEffect (requestOf 4 c 0) i k v .vcpu) ≡ permitsApart w
+unfolding requestOf permission
+apart-single i k w c v h = apart-permitted c (nameable c) (bitAt c 8) i k v ∙ h
+
+pub permit-touches : (m : Module) (i c x j : ℕ) → permitsApart (vcpuAt (next m (at i (call 4 c x))) j) ≡ permitsApart (vcpuAt m j)
+permit-touches m i c x j = pick (ltb i (size m)) (isActive (vcpuAt m i .phase)) refl refl
+  where
+    v : Vcpu
+    v = vcpuAt m i
+
+    touched : Known m i isActive → permitsApart (vcpuAt (next m (at i (call 4 c x))) j) ≡ permitsApart (vcpuAt m j)
+    touched k =
+        ap (λ (o : Out). permitsApart (vcpuAt (o .after) j)) (single-out m i c x k)
+        ∙ on-put m i (singleAfter i (m .registrations) c v) j (k .there) (λ _ _ u w. permitsApart w ≡ permitsApart u)
+        (after-one (λ u. permitsApart u ≡ permitsApart v) i (m .registrations) (apart-single i (m .registrations) v) c v refl) refl
+
+    untouched : isServed m i ≡ false → permitsApart (vcpuAt (next m (at i (call 4 c x))) j) ≡ permitsApart (vcpuAt m j)
+    untouched e = ap (λ (u : Module). permitsApart (vcpuAt u j)) (refused-call m i c x e)
+
+    pick : (a b : Bool) → ltb i (size m) ≡ a → isActive (v .phase) ≡ b → permitsApart (vcpuAt (next m (at i (call 4 c x))) j) ≡ permitsApart (vcpuAt m j)
+    pick true true e f = touched (served-known m i e f)
+    pick true false e f = untouched (rw (e, f))
+    pick false b e f = untouched (rw e)
+
+pub list-touches : (m : Module) (i : ℕ) (cs : List ℕ) (q : Bytes) (j : ℕ) → permitsApart (vcpuAt (next m (at i (allow cs q))) j) ≡ permitsApart (vcpuAt m j)
+unfolding concluded effect
+list-touches m i cs q j =
+    let v = vcpuAt m i in
+    by-verdict m (at i (allow cs q)) (λ o. permitsApart (vcpuAt (o .after) j) ≡ permitsApart (vcpuAt m j)) (λ d h. refl)
+    (λ h. rw (vcpuAt-count)
+    (on-put m i (listAfter i (m .registrations) cs v) j (known-of m i (allow cs q) h .there) (λ _ _ u w. permitsApart w ≡ permitsApart u)
+    (after-each (λ u. permitsApart u ≡ permitsApart v) i (m .registrations) (apart-single i (m .registrations) v) cs v refl) refl))

@@ -182,6 +182,10 @@ in-range m i t z h = pick (ltb i (length (m .vcpus))) refl
         let f : t (absent .phase) ≡ true = subst (λ (v : Vcpu). t (v .phase) ≡ true) d h in
         clash (cc)
 
+-- an active vCPU below n
+pub served-known : (m : Module) (i : ℕ) → ltb i (size m) ≡ true → isActive (vcpuAt m i .phase) ≡ true → Known m i isActive
+served-known m i e f = record { below = e; phase = f; there = in-range m i isActive refl f }
+
 known : (m : Module) (i : ℕ) (t : Phase → Bool) → t Left ≡ false → (c : Refusal) (g : Verdict)
     → need (ltb i (size m)) UnknownVcpu (need (t (vcpuAt m i .phase)) c g) ≡ accept → Known m i t
 known m i t z c g h =

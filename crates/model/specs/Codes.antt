@@ -61,7 +61,7 @@ pub data Result : Type 0 where
   -- how many of its items are new, and how many were merged (4.29, 4.37)
   counted : ℕ → ℕ → Result
   answers : Answer → Result
-  -- the code of each value of a list (5.29, 5.30)
+  -- a list's number, and the code of each of its values (5.29, 5.30)
   coded : ℕ → List ℕ → Result
   refused : ℕ → Result
 
@@ -106,7 +106,7 @@ refusalOf (answers a) = none
 refusalOf (coded x ks) = none
 refusalOf (refused c) = some c
 
--- the code that it stands for in a list, 0 if it does not refuse (5.29)
+-- the code that it stands for in a list, 0 if it does not refuse (5.29, 13.71)
 abbrev pub codeIn : Result → ℕ
 codeIn r = Option·getD (refusalOf r) 0
 

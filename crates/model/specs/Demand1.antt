@@ -13,7 +13,7 @@ use Rattle.model.specs.Causes.{firstCause, causes, startCauses}
 pub record Demand1 : Type 0 where
   -- the code is that of the first cause that holds, and an event is accepted where none does
   pub refusals : (m : Module) (e : Event) → refusalOf (step m e .result) ≡ firstCause (causes m e)
-  -- where an event is refused, the module and the page are those of before
+  -- where an event is refused, the module and the page or second list are those of before
   pub unchanged : (m : Module) (e : Event) (c : ℕ) → step m e .result ≡ refused c → (step m e .after ≡ m) × (step m e .page ≡ pageOf (e .act))
   -- start
   pub starts : (n l : ℕ) → refusalOf (doStart n l .result) ≡ firstCause (startCauses n l)

@@ -1,4 +1,4 @@
--- Demand 2: the gate is what kernels expect (13.6 to 13.18, 13.35 to 13.66, 13.70 to 13.73). That each event's result, module and page are those of
+-- Demand 2: the gate is what kernels expect (13.6 to 13.18, 13.35 to 13.66, 13.70 to 13.72, 13.74). That each event's result, module and page are those of
 -- `step` and `start` is said by the functions' contracts; here is what else is claimed of them.
 -- Assumes nothing.
 use mathlib.Core.Path.{_≡_}
@@ -14,8 +14,8 @@ use Rattle.model.specs.declared.Item.the-variants.{MachineCheck, Vector}
 use Rattle.model.specs.declared.InFlight.the-variants.{Nothing}
 use Rattle.model.specs.declared.Vcpu.{Vcpu}
 use Rattle.model.specs.declared.Module.{Module}
-use Rattle.model.specs.State.{isActive, size, vcpuAt, start, withVcpu, withIrrLevel, withMachineCheck, withIcr, withFlight}
-use Rattle.model.specs.Codes.{Answer, presents, done, counted, answers, coded, codeIn, presentedIn}
+use Rattle.model.specs.State.{isActive, size, vcpuAt, start, withVcpu, withIrrLevel, withMachineCheck, withIcr, withFlight, withAllowed}
+use Rattle.model.specs.Codes.{Answer, presents, done, counted, answers, coded, accepted, codeIn, presentedIn}
 use Rattle.model.specs.Items.{InRange, hasMark, isItem, itemCount, itemInFlight, flightOf, pending, unmarkAll}
 use Rattle.model.specs.Doorbell.{bitOf, announces, descriptor, mapBits, announcingBit, Part, isLevel, inPart, admitted, items}
 use Rattle.model.specs.Registers.{within}
@@ -105,8 +105,12 @@ singles i x cs = map (λ c. at i (call 4 c x)) cs
 abbrev pub codesOf : Module → List Event → List ℕ
 codesOf m es = map (λ (o : Out). codeIn (o .result)) (run m es)
 
+-- a record with nothing allowed and nothing in flight (13.74)
+abbrev pub permitsApart : Vcpu → Vcpu
+permitsApart v = withAllowed empty (withFlight Nothing v)
+
 -- ---- the claim
--- a request: a notice, a guest call, which may be an IPI, or a list of them
+-- a request: a notice, a guest call, which may be an IPI, or a list of values (13.17)
 abbrev pub isRequest : Act Bytes → Bool
 isRequest (notice p) = true
 isRequest (call op c x) = true
@@ -118,7 +122,7 @@ isRequest (allow cs q) = true
 pub record Demand2 : Type 0 where
   pub reached : (n l : ℕ) (es : List Event) (i : ℕ) → Sound (vcpuAt (final (start n l) es) i)
   pub readBack : (n l : ℕ) (es : List Event) (i : ℕ) (p : Bytes) (iF sh : Bool) → ReadsBack (final (start n l) es) i p iF sh
-  -- of every module value: a notice and an IPI take no vector out of PL, on any vCPU
+  -- of every module value: a notice, a guest call and a list of values take no vector out of PL, on any vCPU (13.17)
   pub keepsLevel : (m : Module) (e : Event) (j x : ℕ) → x < 256 → isRequest (e .act) ≡ true
       → has (vcpuAt m j .«irr_level») x ≡ true → has (vcpuAt (next m e) j .«irr_level») x ≡ true
   -- of every module value: a guest call, an IPI among them, leaves PL as it is, on every vCPU (13.39)
@@ -223,9 +227,12 @@ pub record Demand2 : Type 0 where
   pub listIsCalls : (m : Module) (i x : ℕ) (cs : List ℕ) (q : Bytes) → length cs ≤ 256 → length cs ≤ length q
       → next m (at i (allow cs q)) ≡ final m (singles i x cs)
   -- an accepted one gives 0 and the codes of those calls (13.71)
-  pub listCodes : (m : Module) (i x : ℕ) (cs : List ℕ) (q : Bytes) (r : ℕ) (ks : List ℕ) → step m (at i (allow cs q)) .result ≡ coded r ks
-      → (r ≡ 0) × (ks ≡ codesOf m (singles i x cs))
+  pub listGives : (m : Module) (i x : ℕ) (cs : List ℕ) (q : Bytes) → accepted (step m (at i (allow cs q)) .result) ≡ true
+      → step m (at i (allow cs q)) .result ≡ coded 0 (codesOf m (singles i x cs))
   -- its second list keeps its length, and has a code at the place of each value and at every other place what it had (13.72)
-  pub listWrites : (m : Module) (i : ℕ) (cs : List ℕ) (q : Bytes) (r : ℕ) (ks : List ℕ) → step m (at i (allow cs q)) .result ≡ coded r ks
+  pub listWrites : (m : Module) (i x : ℕ) (cs : List ℕ) (q : Bytes) → accepted (step m (at i (allow cs q)) .result) ≡ true
       → (length (step m (at i (allow cs q)) .page) ≡ length q)
-      × ((j : ℕ) → getD (step m (at i (allow cs q)) .page) j 0 ≡ cond (ltb j (length cs)) (getD ks j 0) (getD q j 0))
+      × ((j : ℕ) → getD (step m (at i (allow cs q)) .page) j 0 ≡ cond (ltb j (length cs)) (getD (codesOf m (singles i x cs)) j 0) (getD q j 0))
+  -- of every module value: A and what is in flight apart, call 4 and a list of values change no record (13.74)
+  pub permitTouches : (m : Module) (i c x j : ℕ) → permitsApart (vcpuAt (next m (at i (call 4 c x))) j) ≡ permitsApart (vcpuAt m j)
+  pub listTouches : (m : Module) (i : ℕ) (cs : List ℕ) (q : Bytes) (j : ℕ) → permitsApart (vcpuAt (next m (at i (allow cs q))) j) ≡ permitsApart (vcpuAt m j)

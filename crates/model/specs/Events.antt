@@ -141,7 +141,7 @@ unfoldable pub handBackResult : ℕ → ℕ → Bool → Bool → ℕ
 handBackResult l tpr iF sh = l * 65536 + tpr * 256 + 2 * one sh + one iF
 
 -- ---- whether an event is accepted
--- at most 256 values, and a second list that is as long or longer (5.26, 11.21)
+-- the lengths fit: at most 256 values, and a second list that is as long or longer (5.31, 11.21)
 abbrev pub listFits : List ℕ → List ℕ → Bool
 listFits cs q = leb (length cs) 256 && leb (length cs) (length q)
 
@@ -184,7 +184,7 @@ callEffect (request.Icr x) i k v = record { reply = sends x; vcpu = withIcr x (f
 callEffect (request.Refused c) i k v = record { reply = gives (refused (codeOf c)); vcpu = v; registrations = k; page = [] }
 
 -- ---- a list of ECX values: call 4 with each of them, one after the other
--- call 4 with ECX c; RDX has no part in it (5.15, 5.27)
+-- call 4 with ECX c; RDX has no part in it (5.6, 5.15, 5.27)
 abbrev pub single : ℕ → Act Bytes
 single c = call 4 c 0
 
@@ -197,7 +197,7 @@ byVerdict (refuse c) u v = v
 unfoldable pub singleAfter : ℕ → ℕ → ℕ → Vcpu → Vcpu
 singleAfter i k c v = byVerdict (vcpuVerdict i k v (single c)) (callEffect (requestOf 4 c 0) i k v .vcpu) v
 
--- after all of them: a refused one does not stop the rest (5.27, 5.28)
+-- after all of them: a refused one does not stop the rest (5.27, 5.28, 5.32)
 unfoldable pub listAfter : ℕ → ℕ → List ℕ → Vcpu → Vcpu
 listAfter i k [] v = v
 listAfter i k (c ∷ cs) v = listAfter i k cs (singleAfter i k c v)

@@ -1,25 +1,25 @@
--- Worked cases of a list of ECX values (14.73 to 14.79). L = 1, n = 2 and vCPU 0 unless said.
+-- Worked cases of a list of ECX values (14.73 to 14.79, 14.81). L = 1, n = 2 and vCPU 0 unless said.
 -- Assumes nothing.
 use mathlib.Core.Path.{_≡_}
-use mathlib.Core.Bool.{Bool, true, false}
+use mathlib.Core.Bool.{Bool, true, false, not, _&&_}
 use mathlib.Core.List.{List, [], _∷_}
 use Prim.Native.Nat.{ℕ}
 use lib.ListN.{replicate}
 use Rattle.model.specs.declared.Phase.the-variants.{Leaving, Left}
+use Rattle.model.specs.declared.Refusal.the-variants.{BadList}
+use Rattle.model.specs.declared.Outcome.the-variants as outcome
 use Rattle.model.specs.declared.Module.{Module}
 use Rattle.vector_set.specs.Sets.{empty, insert}
 use Rattle.model.specs.State.{vcpuAt, withAllowed, withPhase}
-use Rattle.model.specs.Codes.{accepted}
-use Rattle.model.specs.Events.{allow, nonDelivery, at, Event, next}
+use Rattle.model.specs.Codes.{listResult, accepted}
+use Rattle.model.specs.Events.{call, allow, nonDelivery, at, Event, next}
+use Rattle.model.specs.Demand2.{isCall, isRequest}
 use Rattle.model.specs.Cases.{sameNumbers, gives, givesCodes, isRefused, fresh2, having, record0, singleton, pending41, resultOn, every}
 use Rattle.model.specs.Worked.{pageAfter, enters}
 
--- a list by vCPU 0, and the same with a second list of n entries 9
-abbrev listed : List ℕ → List ℕ → Event
-listed cs q = at 0 (allow cs q)
-
+-- a list by vCPU 0 with a second list of n entries 9
 abbrev nines : List ℕ → ℕ → Event
-nines cs n = listed cs (replicate n 9)
+nines cs n = at 0 (allow cs (replicate n 9))
 
 abbrev bad : ℕ
 bad = 0x80000005
@@ -61,14 +61,14 @@ values =
     ∷ sameNumbers (pageAfter fresh2 (nines mixed 6)) (0 ∷ bad ∷ 0 ∷ 0 ∷ 9 ∷ 9 ∷ [])
     ∷ sameNumbers (allowedAfter fresh2 (nines mixed 6)) (singleton 0x52)
     ∷ sameNumbers (allowedAfter allowing33 (nines mixed 4)) (insert 0x33 (singleton 0x52))
-    ∷ sameNumbers (pageAfter fresh2 (nines mixed 4)) (0 ∷ bad ∷ 0 ∷ 0 ∷ [])
+    ∷ sameNumbers (pageAfter allowing33 (nines mixed 4)) (0 ∷ bad ∷ 0 ∷ 0 ∷ [])
     -- 14.74: out and in again, in this order
     ∷ sameNumbers (allowedAfter fresh2 (nines (0x041 ∷ 0x141 ∷ []) 2)) (singleton 0x41)
     ∷ sameNumbers (allowedAfter fresh2 (nines (0x141 ∷ 0x041 ∷ []) 2)) empty
     -- 14.75: the members that stand for the NMI and the machine check, and values that call 4 refuses
     ∷ givesCodes 0 (0 ∷ 0 ∷ bad ∷ bad ∷ bad ∷ 0 ∷ 0 ∷ []) (resultOn fresh2 (nines (0x102 ∷ 0x112 ∷ 0x103 ∷ 0x341 ∷ 0x80000141 ∷ 0x11F ∷ 0x1FF ∷ []) 7))
     ∷ sameNumbers (allowedAfter fresh2 (nines (0x102 ∷ 0x341 ∷ 0x112 ∷ []) 3)) (insert 2 (singleton 18))
-    -- 14.76: no value, with a second list and without
+    -- 14.76: no value, with entries in the second list and with none
     ∷ givesCodes 0 [] (resultOn fresh2 (nines [] 0))
     ∷ givesCodes 0 [] (resultOn fresh2 (nines [] 2))
     ∷ sameNumbers (pageAfter fresh2 (nines [] 2)) (9 ∷ 9 ∷ [])
@@ -83,13 +83,20 @@ values =
     ∷ refusesSized 6 fresh2 257 300
     ∷ refusesSized 6 fresh2 256 255
     ∷ refusesSized 6 fresh2 1 0
-    ∷ sameNumbers (pageAfter fresh2 (sized 3 2)) (9 ∷ 9 ∷ [])
+    ∷ refusesSized 6 allowing33 3 2
+    ∷ sameNumbers (pageAfter allowing33 (sized 3 2)) (9 ∷ 9 ∷ [])
     ∷ sameNumbers (allowedAfter allowing33 (sized 3 2)) (singleton 0x33)
     -- 14.79: the vCPU and its phase come first
     ∷ isRefused 1 (resultOn fresh2 (at 2 (allow (replicate 257 0x141) [])))
     ∷ refusesSized 0x80000001 (having (withPhase Leaving record0)) 257 300
     ∷ refusesSized 0x80000001 (having (withPhase Leaving record0)) 1 0
     ∷ refusesSized 0x80000001 (having (withPhase Left record0)) 1 1
+    -- 14.81: no call has the number 5
+    ∷ isRefused 0x80000002 (resultOn fresh2 (at 0 (call 5 0x141 0)))
+    -- what the functions' answers say, and what the claims take a list for
+    ∷ givesCodes 7 (1 ∷ []) (listResult (outcome.Done 7) (1 ∷ []))
+    ∷ isRefused 6 (listResult (outcome.Refused BadList) (1 ∷ []))
+    ∷ (isRequest (allow [] []) && not (isCall (allow [] [])))
     ∷ []
 
 -- ---- all of them

@@ -11,7 +11,7 @@ pub enum Phase {
     Left,
 }
 
-// What is in flight on a vCPU: presented by its latest entry and neither confirmed by a later call or entry nor returned.
+// What is in flight on a vCPU: presented by its latest entry and neither confirmed by a later call, entry or accepted value of a list nor returned.
 pub enum InFlight {
     Nothing,
     Nmi,

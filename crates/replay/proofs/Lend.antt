@@ -1,9 +1,11 @@
 -- What a walk lends for a call and has back once the lifetime that was made for it is ended, at a value of which nothing is said. It says nothing of any
 -- function.
---     Own                              what a `&κ mut T` at (b, o) owns.        Lent, Ref, Token     the same by a record, and its token
+--     Own                              what a `&κ mut T` at (b, o) owns.        Lent, lent, Ref, Token     the same by a record, and its token
+--     spot, slice-spot, ref-of, ref-under      the machine value of such a reference, of a slice, and the reference as a value
 --     lends, comes-back                a `&mut T` that the walk holds, as a `&mut T`
 --     lends-shared, shared-back        the same, as a `&T`: it comes back as it was
 --     lends-slice, slice-back          a `&mut [T; n]`, as a `&mut [T]`
+--     lends-values, values-back        the same, as a `&[T]`: it comes back as it was
 --     lends-local, local-back          what lies in a local, as a `&mut T`
 -- Each takes what it lends from the head of the context. While it is lent: [the reference; the token of its lifetime; what is kept of the lender; ..]
 -- Assumes `Given`.
@@ -31,7 +33,7 @@ use denote.Array.{Array}
 use denote.ArrayMemory.{Single, array-apart, array-whole}
 use denote.Index.{row, whole-out, whole-in}
 use denote.Ref.{RefT, MutRef, ShrRef}
-use denote.Slice.{MutSlice, Room, sliceVal, heres}
+use denote.Slice.{MutSlice, ShrSlice, Room, sliceVal, heres}
 use denote.Lend.{Held, LentAgain}
 use denote.Lend as lend
 use borrow.Rule.Slice.Spent.{settle-any}
@@ -51,12 +53,32 @@ pub record Lent : Type 0 where
   pub offset : ℕ
   pub name : GName
 
+abbrev pub lent : {X : Type 0} → Lft → Share → RefT X → Lent
+lent κ q x = record { lft = κ; share = q; block = x .ptr .0; offset = x .ptr .1; name = x .name }
+
+-- its machine value, that of a slice of n elements there, and the reference to x, under its own name or another
+abbrev pub spot : Lent → Val
+spot r = vptr (r .block) (r .offset)
+
+abbrev pub slice-spot : Lent → ℕ → Val
+slice-spot r n = sliceVal (r .block, r .offset) n
+
+abbrev pub ref-of : {X : Type 0} → Lent → X → RefT X
+ref-of r x = at (r .block) (r .offset) (r .name) x
+
+abbrev pub ref-under : {X : Type 0} → Lent → GName → X → RefT X
+ref-under r γ x = at (r .block) (r .offset) γ x
+
 module _ {M : Type 1} {𝓤 : URA M} (r : Lent) where
   abbrev pub Ref : (R : RattleType) → R .Denot → Item 𝓤
   Ref R x = Own (r .lft) R (r .block) (r .offset) (r .name) x
 
   abbrev pub Token : Item 𝓤
   Token = ‵ (flft (r .lft) (r .share))
+
+-- what lies behind a `&[T]` of the elements xs
+abbrev pub Parts : (R : RattleType) → List (R .Denot) → ℕ → ℕ → Fml
+Parts R xs b o = arr-parts (shares R) (length xs) .part fullShare xs b o
 
 -- what is kept of a reference while P, which lies behind it, is lent for κ′
 abbrev pub Kept : (R : RattleType) → Lft → Share → GName → ℕ → ℕ → R .Denot → Lft → Fml → Fml
@@ -135,3 +157,25 @@ module _ {M : Type 1} {𝓤 : URA M} {H : Heap 𝓤} {A : Atoms 𝓤} {K : Type 
         (array-whole 𝓤 H A W R fullShare n zs b o) $
         move t (1 ∷ []) $ fsplit3 t $ move t (3 ∷ 0 ∷ 1 ∷ 2 ∷ []) $ close-ref t soaks (mem (Array R n)) zs {b = b} {o = o} $
         feqI t (List Val) (vptr b o ∷ []) (vptr b o ∷ []) refl $ fjoin3 t $ k zs)))
+
+    pub lends-values : K → Soaks G → Single (R .mir) → Room R n → {κ : Lft} {q : Share} {γ : GName} {b o : ℕ} (xs : List (R .Denot))
+        → ((α : ℕ) (γ₁ : GName) → length xs ≡ n → Seq K W (‵ (ShrSlice erased (α ∷ []) R .own (at b o γ₁ xs) (sliceVal (b, o) n ∷ [])) ∷ ‵
+        (flft (α ∷ []) fullShare) ∷ ‵ (Kept (Array R n) κ q γ b o xs (α ∷ []) (Parts R xs b o)) ∷ Γ) G)
+        → Seq K W (Own κ (Array R n) b o γ xs ∷ ‵ (flft κ q) ∷ Γ) G
+    lends-values t soaks single room {κ} {q} {γ} {b} {o} xs k = fsplit3 t $ feqL t (λ _. open-ref t soaks (mem (Array R n)) {b = b} {o = o} $
+        use1 W (‵ (arr-parts (shares R) n .part fullShare xs b o)) (array-apart 𝓤 H A W R fullShare single n xs b o) $ fsplit t $ feqL t (λ l.
+        feqI t ℕ (length xs) (length xs) refl $ fjoin t $ lft-new t soaks (λ α. move t (1 ∷ []) $
+        use1 W (later (some (λ (γ₁ : GName). ‵ (ShrSlice erased (α ∷ []) R .own (at b o γ₁ xs) (sliceVal (b, o) (length xs) ∷ [])) ⊛ ‵
+        (flent (α ∷ []) (Parts R xs b o)))))
+        (lend.lends-shr-slice 𝓤 H A W R erased (α ∷ []) fullShare xs b o (subst (Room R) (sym l) room)) $
+        await t soaks $ pick t (λ γ₁. split t $ rewrite t 0 (λ (m : ℕ). ‵ (ShrSlice erased (α ∷ []) R .own (at b o γ₁ xs) (sliceVal (b, o) m ∷ []))) l refl $
+        move t (4 ∷ 5 ∷ []) $ fjoin t $ move t (4 ∷ 0 ∷ []) $ fjoin t $ move t (2 ∷ 0 ∷ []) $ fjoin t $ move t (1 ∷ 2 ∷ 0 ∷ []) $ k α γ₁ l))))
+
+    pub values-back : K → Soaks G → {κ : Lft} {α : ℕ} {q : Share} {γ : GName} {b o : ℕ} (xs : List (R .Denot)) → length xs ≡ n
+        → Seq K W (Own κ (Array R n) b o γ xs ∷ ‵ (flft κ q) ∷ Γ) G
+        → Seq K W (‵ (flft (α ∷ []) fullShare) ∷ ‵ (Kept (Array R n) κ q γ b o xs (α ∷ []) (Parts R xs b o)) ∷ Γ) G
+    values-back t soaks {κ} {α} {q} {γ} {b} {o} xs l k = lft-end t soaks $ move t (1 ∷ []) $ fsplit t $ move t (2 ∷ 0 ∷ []) $ lent-back t soaks $
+        fsplit t $ feqL t (λ _. feqI t ℕ (length xs) n l $ fjoin t $ use1 W (‵ (partAt (Array R n) fullShare xs b o))
+        (array-whole 𝓤 H A W R fullShare n xs b o) $
+        move t (1 ∷ []) $ fsplit3 t $ move t (3 ∷ 0 ∷ 1 ∷ 2 ∷ []) $ close-ref t soaks (mem (Array R n)) xs {b = b} {o = o} $
+        feqI t (List Val) (vptr b o ∷ []) (vptr b o ∷ []) refl $ fjoin3 t $ k)

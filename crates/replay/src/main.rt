@@ -2,12 +2,17 @@
 use console::Answer;
 use console::Chunk;
 use console::LINE_ROOM;
+use console::LIST_ROOM;
 use console::LineRoom;
+use console::ListRoom;
 use console::PageRoom;
+use console::blank_codes;
+use console::first_values;
 use console::front;
 use console::input::advance;
 use console::input::next_event;
 use console::report::report;
+use gate_mut_allow::allow_in;
 use gate_mut_calls::call_in;
 use gate_mut_entries::entry_in;
 use gate_mut_entries::non_delivery_in;
@@ -17,7 +22,13 @@ use model::Module;
 use trace::Event;
 
 // Plays one event on the module that is lent.
-fn play(module: &mut Module, page: &mut PageRoom, event: Event) -> Answer {
+fn play(
+    module: &mut Module,
+    page: &mut PageRoom,
+    values: &[u32],
+    codes: &mut ListRoom,
+    event: Event,
+) -> Answer {
     match event {
         Event::Nothing => Answer::Nothing,
         Event::Unreadable => Answer::Nothing,
@@ -50,6 +61,17 @@ fn play(module: &mut Module, page: &mut PageRoom, event: Event) -> Answer {
             shadow,
             length,
         } => Answer::Outcome(hand_back_in(module, vcpu, front(page, length), iflag, shadow)),
+        Event::Allow {
+            vcpu,
+            count,
+            length,
+            fill,
+        } => Answer::Outcome(allow_in(
+            module,
+            vcpu,
+            first_values(values, count),
+            blank_codes(codes, length, fill),
+        )),
         Event::State => Answer::Nothing,
     }
 }
@@ -61,6 +83,8 @@ fn run(
     chunk: &mut Chunk,
     line: &mut LineRoom,
     page: &mut PageRoom,
+    values: &mut ListRoom,
+    codes: &mut ListRoom,
     out: &mut Chunk,
 ) {
     let mut module = first;
@@ -68,9 +92,9 @@ fn run(
     let mut turns = u64::MAX;
     while turns > 0 {
         session = advance(chunk, line, session);
-        let event = next_event(line, page, session);
-        let answer = play(&mut module, page, event);
-        session = report(out, page, session, event, answer, module);
+        let event = next_event(line, page, values, session);
+        let answer = play(&mut module, page, values, codes, event);
+        session = report(out, page, codes, session, event, answer, module);
         if !session.open {
             return;
         }
@@ -82,8 +106,18 @@ fn main() {
     let mut chunk = io::large_buffer();
     let mut line = [0u8; LINE_ROOM];
     let mut page = io::buffer();
+    let mut values = [0u32; LIST_ROOM];
+    let mut codes = [0u32; LIST_ROOM];
     let mut out = io::large_buffer();
     let first = gate_start::start(0, 0);
     let module = first.after;
-    run(module, &mut chunk, &mut line, &mut page, &mut out);
+    run(
+        module,
+        &mut chunk,
+        &mut line,
+        &mut page,
+        &mut values,
+        &mut codes,
+        &mut out,
+    );
 }

@@ -2,8 +2,12 @@
 use console::Answer;
 use console::Chunk;
 use console::LINE_ROOM;
+use console::LIST_ROOM;
 use console::LineRoom;
+use console::ListRoom;
 use console::PageRoom;
+use console::blank_codes;
+use console::first_values;
 use console::front;
 use console::input::advance;
 use console::input::next_event;
@@ -55,7 +59,13 @@ fn entered(e: Entered) -> Played {
 }
 
 // Plays one event on the module.
-fn play(module: Module, page: &mut [u8], event: Event) -> Played {
+fn play(
+    module: Module,
+    page: &mut [u8],
+    values: &[u32],
+    codes: &mut [u32],
+    event: Event,
+) -> Played {
     match event {
         Event::Nothing => silent(module),
         Event::Unreadable => silent(module),
@@ -84,6 +94,17 @@ fn play(module: Module, page: &mut [u8], event: Event) -> Played {
             shadow,
             length,
         } => stepped(gate_pages::hand_back(module, vcpu, front(page, length), iflag, shadow)),
+        Event::Allow {
+            vcpu,
+            count,
+            length,
+            fill,
+        } => stepped(gate_allow::allow(
+            module,
+            vcpu,
+            first_values(values, count),
+            blank_codes(codes, length, fill),
+        )),
         Event::State => silent(module),
     }
 }
@@ -95,6 +116,8 @@ fn run(
     chunk: &mut Chunk,
     line: &mut LineRoom,
     page: &mut PageRoom,
+    values: &mut ListRoom,
+    codes: &mut ListRoom,
     out: &mut Chunk,
 ) {
     let mut module = first;
@@ -102,11 +125,11 @@ fn run(
     let mut turns = u64::MAX;
     while turns > 0 {
         session = advance(chunk, line, session);
-        let event = next_event(line, page, session);
-        let played = play(module, page, event);
+        let event = next_event(line, page, values, session);
+        let played = play(module, page, values, codes, event);
         module = played.module;
         let answer = played.answer;
-        session = report(out, page, session, event, answer, module);
+        session = report(out, page, codes, session, event, answer, module);
         if !session.open {
             return;
         }
@@ -118,8 +141,18 @@ fn main() {
     let mut chunk = io::large_buffer();
     let mut line = [0u8; LINE_ROOM];
     let mut page = io::buffer();
+    let mut values = [0u32; LIST_ROOM];
+    let mut codes = [0u32; LIST_ROOM];
     let mut out = io::large_buffer();
     let first = gate_start::start(0, 0);
     let module = first.after;
-    run(module, &mut chunk, &mut line, &mut page, &mut out);
+    run(
+        module,
+        &mut chunk,
+        &mut line,
+        &mut page,
+        &mut values,
+        &mut codes,
+        &mut out,
+    );
 }

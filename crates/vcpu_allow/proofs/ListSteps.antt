@@ -26,7 +26,7 @@ use Rattle.model.proofs.Listed.{permission-by}
 use Rattle.model.proofs.Stored.{put-same, count-same, needed}
 use Rattle.vcpu.specs.Records.{pageOn}
 use Rattle.vcpu_allow.specs.declared.Listed.{Listed}
-use Rattle.vcpu_allow.specs.Values.{valueCode, permitted, permittedAll, someNameable, fitsList, listVerdict, codesIn, listedOn}
+use Rattle.vcpu_allow.specs.Values.{valueCode, permitted, permittedAll, someNameable, listVerdict, codesIn, listedOn}
 
 -- ---- one value on the record of an active vCPU
 -- the record with the set s, and with nothing in flight if so
@@ -130,7 +130,7 @@ module _ (m : Module) (i : ℕ) (cs q : List ℕ) where
   verdictOn = listVerdict (v .phase) cs q
 
   same-verdict : i < size m → verdict m (at i (allow cs q)) ≡ verdictOn
-  unfolding verdict vcpuVerdict listVerdict fitsList
+  unfolding verdict vcpuVerdict listVerdict
   same-verdict l = rw (lt-ltb i (size m) l)
 
   stored-list : (b : Bool) → someNameable cs ≡ b → withVcpu m i (forgets b (permittedAll cs (v .allowed)) v) ≡ afterList b (permittedAll cs (v .allowed)) i m
@@ -160,7 +160,7 @@ module _ (m : Module) (i : ℕ) (cs q : List ℕ) where
   by-list : (g : Verdict) → verdictOn ≡ g
       → listedOut (record {
         outcome = listedOn g cs (v .allowed) .outcome;
-        after = afterList (listedOn g cs (v .allowed) .changes) (listedOn g cs (v .allowed) .allowed) i m;
+        after = afterList (listedOn g cs (v .allowed) .accepts) (listedOn g cs (v .allowed) .allowed) i m;
       })
       cs (pageOn g (codesIn cs q) q)
       ≡ decided g m (at i (allow cs q))
@@ -170,25 +170,25 @@ module _ (m : Module) (i : ℕ) (cs q : List ℕ) where
 
   -- the function's answer, with the module after it and the second list, is the step
   pub list-step : (r : Listed) (zs : List ℕ) → i < size m → r ≡ listedOn verdictOn cs (v .allowed) → zs ≡ pageOn verdictOn (codesIn cs q) q
-      → listedOut (record { outcome = r .outcome; after = afterList (r .changes) (r .allowed) i m }) cs zs ≡ step m (at i (allow cs q))
+      → listedOut (record { outcome = r .outcome; after = afterList (r .accepts) (r .allowed) i m }) cs zs ≡ step m (at i (allow cs q))
   unfolding step
   list-step r zs l e f =
-      ap₂ (λ (x : Listed) (ys : List ℕ). listedOut (record { outcome = x .outcome; after = afterList (x .changes) (x .allowed) i m }) cs ys) e f
+      ap₂ (λ (x : Listed) (ys : List ℕ). listedOut (record { outcome = x .outcome; after = afterList (x .accepts) (x .allowed) i m }) cs ys) e f
       ∙ by-list verdictOn refl ∙ ap (λ (g : Verdict). decided g m (at i (allow cs q))) (sym (same-verdict l))
 
   -- the same by whether the record is stored, for a copy u of it
   module _ (u : Vcpu) (here : u ≡ vcpuAt m i) (r : Listed) (zs : List ℕ) (l : i < size m)
       (said : (r ≡ listedOn (listVerdict (u .phase) cs q) cs (u .allowed)) × (zs ≡ pageOn (listVerdict (u .phase) cs q) (codesIn cs q) q)) where
-    told : (b : Bool) → r .changes ≡ b → listedOut (record { outcome = r .outcome; after = afterList b (r .allowed) i m }) cs zs ≡ step m (at i (allow cs q))
+    told : (b : Bool) → r .accepts ≡ b → listedOut (record { outcome = r .outcome; after = afterList b (r .allowed) i m }) cs zs ≡ step m (at i (allow cs q))
     told b e =
         ap (λ (b : Bool). listedOut (record { outcome = r .outcome; after = afterList b (r .allowed) i m }) cs zs) (sym e)
         ∙ list-step r zs l (said .0 ∙ ap (λ (w : Vcpu). listedOn (listVerdict (w .phase) cs q) cs (w .allowed)) here)
         (said .1 ∙ ap (λ (w : Vcpu). pageOn (listVerdict (w .phase) cs q) (codesIn cs q) q) here)
 
-    pub list-kept : r .changes ≡ false → listedOut (record { outcome = r .outcome; after = m }) cs zs ≡ step m (at i (allow cs q))
+    pub list-kept : r .accepts ≡ false → listedOut (record { outcome = r .outcome; after = m }) cs zs ≡ step m (at i (allow cs q))
     list-kept e = told false e
 
-    pub list-stored : r .changes ≡ true
+    pub list-stored : r .accepts ≡ true
         → listedOut (record { outcome = r .outcome; after = withVcpu m i (permittedVcpu (r .allowed) u) }) cs zs ≡ step m (at i (allow cs q))
     list-stored e =
         ap (λ (w : Vcpu). listedOut (record { outcome = r .outcome; after = withVcpu m i (permittedVcpu (r .allowed) w) }) cs zs) here ∙ told true e

@@ -13,22 +13,20 @@ use Rattle.model.specs.declared.Refusal.the-variants.{NotActive, BadList}
 use Rattle.model.specs.declared.Phase.{Phase}
 use Rattle.model.specs.State.{isActive}
 use Rattle.model.specs.Codes.{Verdict, accept, refuse}
+use Rattle.model.specs.Events.{listFits}
 use Rattle.vcpu.specs.Records.{pageOn}
 use Rattle.vcpu_allow.specs.declared.Listed.{Listed}
-use Rattle.vcpu_allow.specs.Values.{permittedAll, someNameable, fitsList, listVerdict, codesIn, listedOn}
+use Rattle.vcpu_allow.specs.Values.{permittedAll, someNameable, listVerdict, codesIn, listedOn}
 
 -- ---- the two lengths
 module _ (xs ys : List ℕ) where
-  pub too-many : 256 < length xs → fitsList xs ys ≡ false
-  unfolding fitsList
+  pub too-many : 256 < length xs → listFits xs ys ≡ false
   too-many h = rw (lt-leb (length xs) 256 h)
 
-  pub no-room : length ys < length xs → fitsList xs ys ≡ false
-  unfolding fitsList
+  pub no-room : length ys < length xs → listFits xs ys ≡ false
   no-room h = ap (λ (b : Bool). leb (length xs) 256 && b) (lt-leb (length xs) (length ys) h) ∙ and-false (leb (length xs) 256)
 
-  pub fits : length xs ≤ 256 → length xs ≤ length ys → fitsList xs ys ≡ true
-  unfolding fitsList
+  pub fits : length xs ≤ 256 → length xs ≤ length ys → listFits xs ys ≡ true
   fits h k = ap₂ (λ (a b : Bool). a && b) (le-leb (length xs) 256 h) (le-leb (length xs) (length ys) k)
 
 -- ---- the verdict
@@ -37,25 +35,25 @@ module _ (p : Phase) (xs ys : List ℕ) where
   unfolding listVerdict
   wrong-phase e = rw e
 
-  pub bad-list : isActive p ≡ true → fitsList xs ys ≡ false → listVerdict p xs ys ≡ refuse BadList
+  pub bad-list : isActive p ≡ true → listFits xs ys ≡ false → listVerdict p xs ys ≡ refuse BadList
   unfolding listVerdict
   bad-list e f = rw (e, f)
 
-  pub right : isActive p ≡ true → fitsList xs ys ≡ true → listVerdict p xs ys ≡ accept
+  pub right : isActive p ≡ true → listFits xs ys ≡ true → listVerdict p xs ys ≡ accept
   unfolding listVerdict
   right e f = rw (e, f)
 
 -- ---- the answer and the second list, by the verdict g
 module _ {g : Verdict} (xs ys s : List ℕ) where
-  pub list-refused : (r : Listed) (c : Refusal) → g ≡ refuse c → r ≡ record { outcome = Refused c; changes = false; allowed = s }
+  pub list-refused : (r : Listed) (c : Refusal) → g ≡ refuse c → r ≡ record { outcome = Refused c; accepts = false; allowed = s }
       → (r ≡ listedOn g xs s) × (ys ≡ pageOn g (codesIn xs ys) ys)
   unfolding listedOn pageOn
   list-refused r c e f = (rw e f, rw e)
 
   pub list-done : (b : Bool) (zs t : List ℕ) → g ≡ accept → b ≡ someNameable xs → zs ≡ codesIn xs ys → t ≡ permittedAll xs s
-      → (_≡_ {A = Listed} (record { outcome = Done 0; changes = b; allowed = t }) (listedOn g xs s)) × (zs ≡ pageOn g (codesIn xs ys) ys)
+      → (_≡_ {A = Listed} (record { outcome = Done 0; accepts = b; allowed = t }) (listedOn g xs s)) × (zs ≡ pageOn g (codesIn xs ys) ys)
   unfolding listedOn pageOn
   list-done b zs t e f k h = (
-    rw e (ap₂ (λ (b : Bool) (t : List ℕ). record { outcome = Done 0; changes = b; allowed = t }) f h),
+    rw e (ap₂ (λ (b : Bool) (t : List ℕ). record { outcome = Done 0; accepts = b; allowed = t }) f h),
     rw e k,
   )

@@ -1,9 +1,8 @@
 -- What a list of ECX values does to the allowed set of its vCPU, each value as call 4 does, and what it answers.
 -- Assumes nothing.
-use mathlib.Core.Bool.{Bool, false, cond, _&&_, _||_}
+use mathlib.Core.Bool.{Bool, false, cond, _||_}
 use mathlib.Core.List.{List, [], _∷_, _++_, map}
 use Prim.Native.Nat.{ℕ, _%_}
-use lib.Dec.{leb}
 use lib.ListN.{length, drop}
 use Rattle.vcpu_allow.specs.declared.Listed.{Listed}
 use Rattle.model.specs.declared.Outcome.the-variants.{Done, Refused}
@@ -12,11 +11,12 @@ use Rattle.model.specs.declared.Phase.{Phase}
 use Rattle.model.specs.State.{isActive}
 use Rattle.model.specs.Codes.{codeOf, Verdict, accept, refuse, need}
 use Rattle.model.specs.Requests.{nameable}
+use Rattle.model.specs.Events.{listFits}
 use Rattle.vector_set.specs.Bits.{bitAt}
 use Rattle.vector_set.specs.Sets.{insert, remove}
 
 -- ---- one value
--- its code (5.17, 5.18)
+-- its code (5.17, 5.18, 5.29)
 unfoldable pub valueCode : ℕ → ℕ
 valueCode c = cond (nameable c) 0 (codeOf BadParameter)
 
@@ -25,29 +25,25 @@ unfoldable pub permitted : ℕ → List ℕ → List ℕ
 permitted c s = cond (nameable c) (cond (bitAt c 8) (insert (c % 256) s) (remove (c % 256) s)) s
 
 -- ---- the list
--- the set after all values, in their order
+-- the set after all values, in their order (5.27, 5.28)
 unfoldable pub permittedAll : List ℕ → List ℕ → List ℕ
 permittedAll [] s = s
 permittedAll (c ∷ cs) s = permittedAll cs (permitted c s)
 
--- one of the values is accepted
+-- one of the values is accepted (5.32)
 unfoldable pub someNameable : List ℕ → Bool
 someNameable [] = false
 someNameable (c ∷ cs) = nameable c || someNameable cs
 
--- at most 256 values, and a second list with room for their codes
-unfoldable pub fitsList : List ℕ → List ℕ → Bool
-fitsList xs ys = leb (length xs) 256 && leb (length xs) (length ys)
-
--- the verdict on the list: the phase, then the two lengths
+-- the verdict on the list: the phase, then the two lengths (5.31, 11.22)
 unfoldable pub listVerdict : Phase → List ℕ → List ℕ → Verdict
-listVerdict p xs ys = need (isActive p) NotActive (need (fitsList xs ys) BadList accept)
+listVerdict p xs ys = need (isActive p) NotActive (need (listFits xs ys) BadList accept)
 
--- the second list with the codes, as before past the count
+-- the second list with the codes, as before past the count (5.29)
 unfoldable pub codesIn : List ℕ → List ℕ → List ℕ
 codesIn xs ys = map valueCode xs ++ drop (length xs) ys
 
--- the answer, by the verdict
+-- the answer, by the verdict (5.30, 5.32, 11.19)
 unfoldable pub listedOn : Verdict → List ℕ → List ℕ → Listed
-listedOn (refuse c) xs s = record { outcome = Refused c; changes = false; allowed = s }
-listedOn accept xs s = record { outcome = Done 0; changes = someNameable xs; allowed = permittedAll xs s }
+listedOn (refuse c) xs s = record { outcome = Refused c; accepts = false; allowed = s }
+listedOn accept xs s = record { outcome = Done 0; accepts = someNameable xs; allowed = permittedAll xs s }

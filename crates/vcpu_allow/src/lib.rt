@@ -17,16 +17,16 @@ pub const MOST_VALUES: usize = 256;
 // The answer to a list, whether one of its values was accepted, and the allowed set after it.
 pub struct Listed {
     pub outcome: Outcome,
-    pub changes: bool,
+    pub accepts: bool,
     pub allowed: [u32; 8],
 }
 
 fn refused(c: Refusal, allowed: [u32; 8]) -> Listed
-    ensures { λ r. ⌜ r ≡ record { outcome = Outcome.Refused c; changes = false; allowed = allowed } ⌝ }
+    ensures { λ r. ⌜ r ≡ record { outcome = Outcome.Refused c; accepts = false; allowed = allowed } ⌝ }
 {
     Listed {
         outcome: Outcome::Refused(c),
-        changes: false,
+        accepts: false,
         allowed,
     }
 }
@@ -56,17 +56,17 @@ fn permit_all(values: &[u32], codes: &mut [u32], set: &mut [u32; 8]) -> bool
     ensures { λ r. ⌜ (r ≡ someNameable (now (values .entry))) × (now (codes .exit) ≡ codesIn (now (values .entry)) (now (codes .entry)))
         × (now (set .exit) ≡ permittedAll (now (values .entry)) (now (set .entry))) ⌝ }
 {
-    let mut changes = false;
+    let mut accepts = false;
     let mut k = 0;
     while k < values.len() {
         let code = permit_value(values[k], set);
         codes[k] = code;
         if code == 0 {
-            changes = true;
+            accepts = true;
         }
         k += 1;
     }
-    changes
+    accepts
 }
 
 // A list for a vCPU in the phase, with the set allowed: the code of each value goes to the second list, whose entries past the count stay.
@@ -82,10 +82,10 @@ pub fn allow_values(values: &[u32], codes: &mut [u32], phase: Phase, allowed: [u
         return refused(Refusal::BadList, allowed);
     }
     let mut set = allowed;
-    let changes = permit_all(values, codes, &mut set);
+    let accepts = permit_all(values, codes, &mut set);
     Listed {
         outcome: Outcome::Done(0),
-        changes,
+        accepts,
         allowed: set,
     }
 }

@@ -99,10 +99,10 @@ changed r v = withFlight Nothing (withAllowed (r .allowed) v)
 
 -- the contract where nothing changes, and where something does
 module _ (h : Module) (i : ℕ) (l : i < size h) (xs ys zs : List ℕ) (r : Listed) (said : ListsAt h i xs ys r zs) where
-  keeps : r .changes ≡ false → Says h i xs ys (r .outcome) h zs
+  keeps : r .accepts ≡ false → Says h i xs ys (r .outcome) h zs
   keeps same = list-kept h i xs ys (vcpuAt h i) refl r zs l said same
 
-  stores : r .changes ≡ true → Says h i xs ys (r .outcome) (withVcpu h i (changed r (vcpuAt h i))) zs
+  stores : r .accepts ≡ true → Says h i xs ys (r .outcome) (withVcpu h i (changed r (vcpuAt h i))) zs
   stores so = list-stored h i xs ys (vcpuAt h i) refl r zs l said so
 
 -- ---- the functions that it calls, as the table of calls has them
@@ -218,13 +218,13 @@ module _ {M : Type 1} (𝓤 : URA M) (H : Heap 𝓤) (A : Atoms 𝓤) (W : Given
 
       -- where nothing changes
       changes-or-not : {next : Code}
-          → (r .changes ≡ true → Sq W (standing (‵ (partAt T.the-row fullShare h b o)) (given-up x y zs) (start (gave r))) (running next))
+          → (r .accepts ≡ true → Sq W (standing (‵ (partAt T.the-row fullShare h b o)) (given-up x y zs) (start (gave r))) (running next))
           → Sq W (standing (‵ (partAt T.the-row fullShare h b o)) (given-up x y zs) (start (gave r))) (running (unless-code next))
       changes-or-not k =
           sets ! (un ! (load ! (from ! (fld ! refl (stop !))) (look-in ! 15 (sub ! 1 refl (whole !)))) tt) 18 refl (tt, tt) $
           guards ! (var ! 18 refl)
-          (λ no. forget ! 18 refl $ answers h (keeps h i l xs ys zs r said (is-not (r .changes) no)) refl)
-          (λ so. forget ! 18 refl $ k (is-set (r .changes) so))
+          (λ no. forget ! 18 refl $ answers h (keeps h i l xs ys zs r said (is-not (r .accepts) no)) refl)
+          (λ so. forget ! 18 refl $ k (is-set (r .accepts) so))
 
       -- the two stores
       module _ (below : i < 32) (there : i < length (h .vcpus)) where

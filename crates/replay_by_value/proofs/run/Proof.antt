@@ -6,10 +6,10 @@ use Rattle.replay_by_value.proofs.run.Statement.{statement}
 use Rattle.replay_by_value.proofs.run.Tie as tie
 
 abbrev Inv-loop : tie.InvT-loop
-Inv-loop chunk₀ line₀ page₀ out₀ module₀ session₀ turns₀ chunk line page out module′ session turns = Unit
+Inv-loop chunk₀ line₀ page₀ values₀ codes₀ out₀ module₀ session₀ turns₀ chunk line page values codes out module′ session turns = Unit
 
 abbrev μ-loop : tie.MeasureT-loop
-μ-loop chunk₀ line₀ page₀ out₀ module₀ session₀ turns₀ chunk line page out module′ session turns = turns
+μ-loop chunk₀ line₀ page₀ values₀ codes₀ out₀ module₀ session₀ turns₀ chunk line page values codes out module′ session turns = turns
 
 begin-requires : tie.Need-begin-requires Inv-loop μ-loop
 begin-requires c κs = search needs
@@ -33,10 +33,11 @@ returns : tie.Need-returns Inv-loop μ-loop
 returns c = search needs
 
 sub-turns : tie.Need-sub-turns Inv-loop μ-loop
-sub-turns c = c .before .before .before .before .before .before .before .before .before .before .before .before .before .before .loop-test .taken
+sub-turns c = c .before .before .before .before .before .before .before .before .before
+    .before .before .before .before .before .before .before .before .before .before .loop-test .taken
 
 loop-less : tie.Need-loop-less Inv-loop μ-loop
-loop-less c = omega (arith, c .before .before .before .before .before .before .before .before .before .before .before .before .before .before .loop-test .taken)
+loop-less c = omega (arith, sub-turns c)
 
 loop-again : tie.Need-loop-again Inv-loop μ-loop
 loop-again c = search needs

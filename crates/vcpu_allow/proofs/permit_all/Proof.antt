@@ -15,16 +15,16 @@ use Rattle.vcpu_allow.proofs.permit_all.Statement.{statement}
 use Rattle.vcpu_allow.proofs.permit_all.Tie as tie
 
 abbrev Inv-loop : tie.InvT-loop
-Inv-loop values codes₀ set₀ changes₀ k₀ codes set changes k =
+Inv-loop values codes₀ set₀ accepts₀ k₀ codes set accepts k =
     (k ≤ length values)
     × (length codes ≡ length codes₀)
     × (codes ≡ take k (map valueCode values) ++ drop k codes₀)
     × Words set
     × (permittedAll (drop k values) set ≡ permittedAll values set₀)
-    × ((changes || someNameable (drop k values)) ≡ someNameable values)
+    × ((accepts || someNameable (drop k values)) ≡ someNameable values)
 
 abbrev μ-loop : tie.MeasureT-loop
-μ-loop values codes₀ set₀ changes₀ k₀ codes set changes k = length values - k
+μ-loop values codes₀ set₀ accepts₀ k₀ codes set accepts k = length values - k
 
 loop-holds : tie.Need-loop-holds Inv-loop μ-loop
 loop-holds c = (omega arith, refl, refl, c .before .before .pre .1, refl, refl)
@@ -39,14 +39,14 @@ value c =
     getD (l .before .before .before .args .values .now) (l .loop .k) 0
 
 -- whether one was accepted so far, after the turn
-changed : (c : tie.Joined1 Inv-loop μ-loop) → c .if1 .changes ≡ (c .before .before .before .before .before .loop .changes || nameable (value c))
+changed : (c : tie.Joined1 Inv-loop μ-loop) → c .if1 .accepts ≡ (c .before .before .before .before .before .loop .accepts || nameable (value c))
 changed c =
     let l = c .before .before .before .before .before .loop in
     let x = value c in
     let e = c .before .permit-value .ensures .0 in
     ⊎-elim
-    (λ w. w .1 ∙ sym (ap (λ (b : Bool). l .changes || b) (code-zero x (sym e ∙ w .0 .taken)) ∙ or-true (l .changes)))
-    (λ w. w .1 ∙ sym (ap (λ (b : Bool). l .changes || b) (code-other x (λ z. w .0 .left (e ∙ z))) ∙ or-false (l .changes)))
+    (λ w. w .1 ∙ sym (ap (λ (b : Bool). l .accepts || b) (code-zero x (sym e ∙ w .0 .taken)) ∙ or-true (l .accepts)))
+    (λ w. w .1 ∙ sym (ap (λ (b : Bool). l .accepts || b) (code-other x (λ z. w .0 .left (e ∙ z))) ∙ or-false (l .accepts)))
     (c .if1 .came)
 
 loop-again : tie.Need-loop-again Inv-loop μ-loop
@@ -64,8 +64,8 @@ loop-again c =
       subst Words (sym (p .ensures .1)) (words-permitted (value c) (l .set) (l .inv .3)),
       ap (permittedAll (drop (l .k + 1) xs)) (p .ensures .1) ∙ sym (set-left xs (l .k) h (l .set)) ∙ l .inv .4,
       ap (λ (b : Bool). b || someNameable (drop (l .k + 1) xs)) (changed c)
-          ∙ or-assoc (l .changes) (nameable (value c)) (someNameable (drop (l .k + 1) xs))
-          ∙ ap (λ (b : Bool). l .changes || b) (sym (some-left xs (l .k) h))
+          ∙ or-assoc (l .accepts) (nameable (value c)) (someNameable (drop (l .k + 1) xs))
+          ∙ ap (λ (b : Bool). l .accepts || b) (sym (some-left xs (l .k) h))
           ∙ l .inv .5,
     )
 
@@ -75,7 +75,7 @@ returns c =
     let l = c .before .loop in
     let xs = s .args .values .now in
     let e : l .k ≡ length xs = omega arith in (
-      sym (ap (λ (b : Bool). l .changes || b) (some-all xs (l .k) e) ∙ or-false (l .changes)) ∙ l .inv .5,
+      sym (ap (λ (b : Bool). l .accepts || b) (some-all xs (l .k) e) ∙ or-false (l .accepts)) ∙ l .inv .5,
       l .inv .2 ∙ codes-all xs (l .k) e (s .args .codes .now),
       sym (set-all xs (l .k) e (l .set)) ∙ l .inv .4,
     )

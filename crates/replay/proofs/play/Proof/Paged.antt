@@ -35,6 +35,7 @@ use Rattle.gate_mut.proofs.Frame.{Blocks, var, sets}
 use Rattle.replay.proofs.Arms.{nth-arm}
 use Rattle.replay.proofs.Call.{big-lit}
 use Rattle.replay.proofs.Lend.{Lent}
+use Rattle.replay.proofs.OnLists.{Lists}
 use Rattle.replay.proofs.OnModule.{Fronts, fronts, pages}
 use Rattle.replay.proofs.Values.{typedN}
 use Rattle.replay.proofs.play.Code as code
@@ -42,79 +43,79 @@ use Rattle.replay.proofs.play.Code.Mir.{s-1, t-2}
 use Rattle.replay.proofs.play.Proof.Shape as shape
 
 module _ {M : Type 1} (𝓤 : URA M) (H : Heap 𝓤) (A : Atoms 𝓤) (W : Given 𝓤 H A) (memory : Memory → SProp 𝓤) (run : Routine → Fun 𝓤) (m p : Lent) (h : Module)
-    (ys : List ℕ) (𝓣 : Tables 𝓤 H) (bs : Blocks (code.function .locals)) where
+    (ys : List ℕ) (l : Lists) (𝓣 : Tables 𝓤 H) (bs : Blocks (code.function .locals)) where
   abbrev Post′ : Event → Val → SProp 𝓤
-  Post′ = shape.Post′ 𝓤 H A W memory run m p h ys
+  Post′ = shape.Post′ 𝓤 H A W memory run m p h ys l
 
   abbrev En : Env 𝓤 H
-  En = shape.En 𝓤 H A W memory run m p h ys 𝓣 bs
+  En = shape.En 𝓤 H A W memory run m p h ys l 𝓣 bs
 
   abbrev Then : Event → Post 𝓤 H
-  Then = shape.Then 𝓤 H A W memory run m p h ys 𝓣 bs
+  Then = shape.Then 𝓤 H A W memory run m p h ys l 𝓣 bs
 
   abbrev Matched : Event → Type 1
-  Matched = shape.Matched 𝓤 H A W memory run m p h ys 𝓣 bs
+  Matched = shape.Matched 𝓤 H A W memory run m p h ys l 𝓣 bs
 
   pub notice-arm : Triple 𝓤 (𝓣 .C #front) (Fronts 𝓤 H A W memory run m p h ys)
-      → Triple 𝓤 (𝓣 .C #notice) (shape.Notices 𝓤 H A W memory run m p h ys) → (i n : ℕ) → Matched (event.Notice i n)
+      → Triple 𝓤 (𝓣 .C #notice) (shape.Notices 𝓤 H A W memory run m p h ys l) → (i n : ℕ) → Matched (event.Notice i n)
   notice-arm front-known known i n is-e =
       let e : Event = event.Notice i n in
       let i-fits = EL.owed X.the-type X′.the-laws (event.Notice i n) _ is-e .0 .1 in
       let n-fits = EL.owed X.the-type X′.the-laws (event.Notice i n) _ is-e .1 .0 .1 in
-      switches-on ! (load ! (from ! (vrt ! refl (fld ! refl (stop !)))) (look-tag ! 7 (whole !))) $ exec ! (𝓣 .C) (𝓣 .Λ) En (nth-arm 3 s-1) (Then e) $
-      sets ! (of-opd ! (load ! (from ! (vrt ! refl (fld ! {d = 4} refl (stop !)))) (look-in ! 7 (in-variant ! 3 0 {d = 4} refl refl (whole !))))) 11 refl
+      switches-on ! (load ! (from ! (vrt ! refl (fld ! refl (stop !)))) (look-tag ! 13 (whole !))) $ exec ! (𝓣 .C) (𝓣 .Λ) En (nth-arm 3 s-1) (Then e) $
+      sets ! (of-opd ! (load ! (from ! (vrt ! refl (fld ! {d = 4} refl (stop !)))) (look-in ! 13 (in-variant ! 3 0 {d = 4} refl refl (whole !))))) 17 refl
       (tt, record { fits = i-fits }) $
-      sets ! (of-opd ! (load ! (from ! (vrt ! refl (fld ! {d = 8} refl (stop !)))) (look-in ! 7 (in-variant ! 3 1 {d = 8} refl refl (whole !))))) 12 refl
+      sets ! (of-opd ! (load ! (from ! (vrt ! refl (fld ! {d = 8} refl (stop !)))) (look-in ! 13 (in-variant ! 3 1 {d = 8} refl refl (whole !))))) 18 refl
       (tt, record { fits = n-fits }) $
-      sets ! (addr ! (from ! (hop ! (look ! 5 refl) (stop !)))) 28 refl (tt, tt) $
-      sets ! (addr ! (from ! (hop ! (look ! 6 refl) (stop !)))) 30 refl (tt, tt) $
-      sets ! (agg ! (and-then ! (var ! 30 refl) (and-then ! (big-lit ! (record { fits = lit< tt })) (no-more !)))) 31 refl
+      sets ! (addr ! (from ! (hop ! (look ! 9 refl) (stop !)))) 38 refl (tt, tt) $
+      sets ! (addr ! (from ! (hop ! (look ! 10 refl) (stop !)))) 40 refl (tt, tt) $
+      sets ! (agg ! (and-then ! (var ! 40 refl) (and-then ! (big-lit ! (record { fits = lit< tt })) (no-more !)))) 41 refl
       (tt, (tt, (record { fits = lit< tt }, tt))) $
-      fronts 𝓤 H A W memory run m p h ys 𝓣 ! front-known n n-fits (λ β γ₂ lent. and-then ! (var ! 31 refl) (and-then ! (var ! 12 refl) (no-more !)))
-      (λ β γ₂ l r room.
-      land ! (from ! (stop !)) (init ! 30 refl (tt, (tt, (record { fits = room .0 }, tt)))) $
+      fronts 𝓤 H A W memory run m p h ys 𝓣 ! front-known n n-fits (λ β γ₂ x′. and-then ! (var ! 41 refl) (and-then ! (var ! 18 refl) (no-more !)))
+      (λ β γ₂ long r room.
+      land ! (from ! (stop !)) (init ! 40 refl (tt, (tt, (record { fits = room .0 }, tt)))) $
       pages 𝓤 H A W memory run m p h ys 𝓣 ! [] tt D.the-row machA (EL.tells D.the-type D′.the-laws)
-      (notice.clauses 𝓤 H A memory run) known i i-fits β γ₂ l r (λ α. tt) (λ α. tt) (λ α. tt) (λ α. tt)
+      (notice.clauses 𝓤 H A memory run) known i i-fits β γ₂ long r (λ α. tt) (λ α. tt) (λ α. tt) (λ α. tt)
       (λ α γ₁. tt) (λ α γ₁. id⊢ 𝓤 (emp 𝓤))
-      (λ α γ₁ lent. and-then ! (var ! 27 refl) (and-then ! (var ! 10 refl) (and-then ! (var ! 28 refl) (no-more !)))) (λ a a-is h′ zs.
+      (λ α γ₁ x. and-then ! (var ! 37 refl) (and-then ! (var ! 16 refl) (and-then ! (var ! 38 refl) (no-more !)))) (λ a a-is h′ zs.
       let is = EL.owes N.the-type N′.the-laws (answer.Admission a) (a-is, tt) in
-      land ! (from ! (stop !)) (init ! 27 refl (typedA 𝓤 H A W a a-is)) $
-      assigns-last ! (agg ! (and-then ! (lit ! tt) (and-then ! (var ! 27 refl) (no-more !)))) (from ! (stop !))
-      (init ! 26 refl (typedN 𝓤 H A W (answer.Admission a) is)) $ exec ! (𝓣 .C) (𝓣 .Λ) En t-2 (atRet En (Post′ e)) $
-      sets ! (of-opd ! (var ! 26 refl)) 4 refl (typedN 𝓤 H A W (answer.Admission a) is) $
-      shape.leaves 𝓤 H A W memory run m p h ys 𝓣 bs e (answer.Admission a) is h′ zs refl))
+      land ! (from ! (stop !)) (init ! 37 refl (typedA 𝓤 H A W a a-is)) $
+      assigns-last ! (agg ! (and-then ! (lit ! tt) (and-then ! (var ! 37 refl) (no-more !)))) (from ! (stop !))
+      (init ! 36 refl (typedN 𝓤 H A W (answer.Admission a) is)) $ exec ! (𝓣 .C) (𝓣 .Λ) En t-2 (atRet En (Post′ e)) $
+      sets ! (of-opd ! (var ! 36 refl)) 8 refl (typedN 𝓤 H A W (answer.Admission a) is) $
+      shape.leaves 𝓤 H A W memory run m p h ys l 𝓣 bs e (answer.Admission a) is h′ zs (l .told) refl))
 
   pub hand-back-arm : Triple 𝓤 (𝓣 .C #front) (Fronts 𝓤 H A W memory run m p h ys)
-      → Triple 𝓤 (𝓣 .C #hand-back) (shape.HandsBack 𝓤 H A W memory run m p h ys) → (i : ℕ) (x y : Bool) (n : ℕ)
+      → Triple 𝓤 (𝓣 .C #hand-back) (shape.HandsBack 𝓤 H A W memory run m p h ys l) → (i : ℕ) (x y : Bool) (n : ℕ)
       → Matched (event.HandBack i x y n)
   hand-back-arm front-known known i x y n is-e =
       let e : Event = event.HandBack i x y n in
       let i-fits = EL.owed X.the-type X′.the-laws (event.HandBack i x y n) _ is-e .0 .1 in
       let n-fits = EL.owed X.the-type X′.the-laws (event.HandBack i x y n) _ is-e .1 .1 .1 .0 .1 in
-      switches-on ! (load ! (from ! (vrt ! refl (fld ! refl (stop !)))) (look-tag ! 7 (whole !))) $ exec ! (𝓣 .C) (𝓣 .Λ) En (nth-arm 7 s-1) (Then e) $
-      sets ! (of-opd ! (load ! (from ! (vrt ! refl (fld ! {d = 4} refl (stop !)))) (look-in ! 7 (in-variant ! 7 0 {d = 4} refl refl (whole !))))) 22 refl
+      switches-on ! (load ! (from ! (vrt ! refl (fld ! refl (stop !)))) (look-tag ! 13 (whole !))) $ exec ! (𝓣 .C) (𝓣 .Λ) En (nth-arm 7 s-1) (Then e) $
+      sets ! (of-opd ! (load ! (from ! (vrt ! refl (fld ! {d = 4} refl (stop !)))) (look-in ! 13 (in-variant ! 7 0 {d = 4} refl refl (whole !))))) 28 refl
       (tt, record { fits = i-fits }) $
-      sets ! (of-opd ! (load ! (from ! (vrt ! refl (fld ! {d = 8} refl (stop !)))) (look-in ! 7 (in-variant ! 7 1 {d = 8} refl refl (whole !))))) 23 refl
+      sets ! (of-opd ! (load ! (from ! (vrt ! refl (fld ! {d = 8} refl (stop !)))) (look-in ! 13 (in-variant ! 7 1 {d = 8} refl refl (whole !))))) 29 refl
       (tt, tt) $
-      sets ! (of-opd ! (load ! (from ! (vrt ! refl (fld ! {d = 9} refl (stop !)))) (look-in ! 7 (in-variant ! 7 2 {d = 9} refl refl (whole !))))) 24 refl
+      sets ! (of-opd ! (load ! (from ! (vrt ! refl (fld ! {d = 9} refl (stop !)))) (look-in ! 13 (in-variant ! 7 2 {d = 9} refl refl (whole !))))) 30 refl
       (tt, tt) $
-      sets ! (of-opd ! (load ! (from ! (vrt ! refl (fld ! {d = 16} refl (stop !)))) (look-in ! 7 (in-variant ! 7 3 {d = 16} refl refl (whole !))))) 25 refl
+      sets ! (of-opd ! (load ! (from ! (vrt ! refl (fld ! {d = 16} refl (stop !)))) (look-in ! 13 (in-variant ! 7 3 {d = 16} refl refl (whole !))))) 31 refl
       (tt, record { fits = n-fits }) $
-      sets ! (addr ! (from ! (hop ! (look ! 5 refl) (stop !)))) 39 refl (tt, tt) $
-      sets ! (addr ! (from ! (hop ! (look ! 6 refl) (stop !)))) 41 refl (tt, tt) $
-      sets ! (agg ! (and-then ! (var ! 41 refl) (and-then ! (big-lit ! (record { fits = lit< tt })) (no-more !)))) 42 refl
+      sets ! (addr ! (from ! (hop ! (look ! 9 refl) (stop !)))) 49 refl (tt, tt) $
+      sets ! (addr ! (from ! (hop ! (look ! 10 refl) (stop !)))) 51 refl (tt, tt) $
+      sets ! (agg ! (and-then ! (var ! 51 refl) (and-then ! (big-lit ! (record { fits = lit< tt })) (no-more !)))) 52 refl
       (tt, (tt, (record { fits = lit< tt }, tt))) $
-      fronts 𝓤 H A W memory run m p h ys 𝓣 ! front-known n n-fits (λ β γ₂ lent. and-then ! (var ! 42 refl) (and-then ! (var ! 25 refl) (no-more !)))
-      (λ β γ₂ l r room.
-      land ! (from ! (stop !)) (init ! 41 refl (tt, (tt, (record { fits = room .0 }, tt)))) $
+      fronts 𝓤 H A W memory run m p h ys 𝓣 ! front-known n n-fits (λ β γ₂ x′. and-then ! (var ! 52 refl) (and-then ! (var ! 31 refl) (no-more !)))
+      (λ β γ₂ long r room.
+      land ! (from ! (stop !)) (init ! 51 refl (tt, (tt, (record { fits = room .0 }, tt)))) $
       pages 𝓤 H A W memory run m p h ys 𝓣 ! (plain (λ _. bool) ∷ plain (λ _. bool) ∷ []) (yes, (yes, tt)) O.the-row machO (EL.tells O.the-type O′.the-laws)
-      (hand-back.clauses 𝓤 H A memory run) known i i-fits β γ₂ l r (λ α. (bool-makes 𝓤 H A W, (bool-makes 𝓤 H A W, tt)))
+      (hand-back.clauses 𝓤 H A memory run) known i i-fits β γ₂ long r (λ α. (bool-makes 𝓤 H A W, (bool-makes 𝓤 H A W, tt)))
       (λ α. (x, (y, tt))) (λ α. (vbool x ∷ [], (vbool y ∷ [], tt))) (λ α. (refl, (refl, tt))) (λ α γ₁. tt) (λ α γ₁. id⊢ 𝓤 (emp 𝓤))
-      (λ α γ₁ lent. and-then ! (var ! 38 refl) (and-then ! (var ! 21 refl) (and-then ! (var ! 39 refl)
-      (and-then ! (var ! 22 refl) (and-then ! (var ! 23 refl) (no-more !)))))) (λ a a-is h′ zs.
+      (λ α γ₁ x′. and-then ! (var ! 48 refl) (and-then ! (var ! 27 refl) (and-then ! (var ! 49 refl)
+      (and-then ! (var ! 28 refl) (and-then ! (var ! 29 refl) (no-more !)))))) (λ a a-is h′ zs.
       let is = EL.owes N.the-type N′.the-laws (answer.Outcome a) (a-is, tt) in
-      land ! (from ! (stop !)) (init ! 38 refl (typedO 𝓤 H A W a a-is)) $
-      assigns-last ! (agg ! (and-then ! (lit ! tt) (and-then ! (var ! 38 refl) (no-more !)))) (from ! (stop !))
-      (init ! 26 refl (typedN 𝓤 H A W (answer.Outcome a) is)) $ exec ! (𝓣 .C) (𝓣 .Λ) En t-2 (atRet En (Post′ e)) $
-      sets ! (of-opd ! (var ! 26 refl)) 4 refl (typedN 𝓤 H A W (answer.Outcome a) is) $
-      shape.leaves 𝓤 H A W memory run m p h ys 𝓣 bs e (answer.Outcome a) is h′ zs refl))
+      land ! (from ! (stop !)) (init ! 48 refl (typedO 𝓤 H A W a a-is)) $
+      assigns-last ! (agg ! (and-then ! (lit ! tt) (and-then ! (var ! 48 refl) (no-more !)))) (from ! (stop !))
+      (init ! 36 refl (typedN 𝓤 H A W (answer.Outcome a) is)) $ exec ! (𝓣 .C) (𝓣 .Λ) En t-2 (atRet En (Post′ e)) $
+      sets ! (of-opd ! (var ! 36 refl)) 8 refl (typedN 𝓤 H A W (answer.Outcome a) is) $
+      shape.leaves 𝓤 H A W memory run m p h ys l 𝓣 bs e (answer.Outcome a) is h′ zs (l .told) refl))

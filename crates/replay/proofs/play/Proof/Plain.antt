@@ -36,6 +36,7 @@ use Rattle.gate_mut.proofs.Answers.{machO, machP, typedO, typedP}
 use Rattle.gate_mut.proofs.Frame.{Blocks, var, sets}
 use Rattle.replay.proofs.Arms.{nth-arm}
 use Rattle.replay.proofs.Lend.{Lent}
+use Rattle.replay.proofs.OnLists.{Lists}
 use Rattle.replay.proofs.OnModule.{modules}
 use Rattle.replay.proofs.Values.{typedN}
 use Rattle.replay.proofs.play.Code as code
@@ -43,57 +44,57 @@ use Rattle.replay.proofs.play.Code.Mir.{s-1, t-2}
 use Rattle.replay.proofs.play.Proof.Shape as shape
 
 module _ {M : Type 1} (𝓤 : URA M) (H : Heap 𝓤) (A : Atoms 𝓤) (W : Given 𝓤 H A) (memory : Memory → SProp 𝓤) (run : Routine → Fun 𝓤) (m p : Lent) (h : Module)
-    (ys : List ℕ) (𝓣 : Tables 𝓤 H) (bs : Blocks (code.function .locals)) where
+    (ys : List ℕ) (l : Lists) (𝓣 : Tables 𝓤 H) (bs : Blocks (code.function .locals)) where
   abbrev Post′ : Event → Val → SProp 𝓤
-  Post′ = shape.Post′ 𝓤 H A W memory run m p h ys
+  Post′ = shape.Post′ 𝓤 H A W memory run m p h ys l
 
   abbrev En : Env 𝓤 H
-  En = shape.En 𝓤 H A W memory run m p h ys 𝓣 bs
+  En = shape.En 𝓤 H A W memory run m p h ys l 𝓣 bs
 
   abbrev Then : Event → Post 𝓤 H
-  Then = shape.Then 𝓤 H A W memory run m p h ys 𝓣 bs
+  Then = shape.Then 𝓤 H A W memory run m p h ys l 𝓣 bs
 
   abbrev At : Event → List (Item 𝓤)
-  At = shape.At 𝓤 H A W memory run m p h ys 𝓣 bs
+  At = shape.At 𝓤 H A W memory run m p h ys l 𝓣 bs
 
   abbrev Matched : Event → Type 1
-  Matched = shape.Matched 𝓤 H A W memory run m p h ys 𝓣 bs
+  Matched = shape.Matched 𝓤 H A W memory run m p h ys l 𝓣 bs
 
   -- the answer of a line that names no event
   silent : (e : Event) → Sq W (At e) (runs (𝓣 .C) (𝓣 .Λ) En (nth-arm 0 s-1) (Then e))
   silent e =
       let is = EL.owes N.the-type N′.the-laws answer.Nothing tt in
-      assigns-last ! (agg ! (and-then ! (lit ! tt) (no-more !))) (from ! (stop !)) (init ! 26 refl (typedN 𝓤 H A W answer.Nothing is)) $
+      assigns-last ! (agg ! (and-then ! (lit ! tt) (no-more !))) (from ! (stop !)) (init ! 36 refl (typedN 𝓤 H A W answer.Nothing is)) $
       exec ! (𝓣 .C) (𝓣 .Λ) En t-2 (atRet En (Post′ e)) $
-      sets ! (of-opd ! (var ! 26 refl)) 4 refl (typedN 𝓤 H A W answer.Nothing is) $
-      shape.leaves 𝓤 H A W memory run m p h ys 𝓣 bs e answer.Nothing is h ys refl
+      sets ! (of-opd ! (var ! 36 refl)) 8 refl (typedN 𝓤 H A W answer.Nothing is) $
+      shape.leaves 𝓤 H A W memory run m p h ys l 𝓣 bs e answer.Nothing is h ys (l .told) refl
 
   pub nothing-arm : Matched event.Nothing
-  nothing-arm is-e = switches-on ! (load ! (from ! (vrt ! refl (fld ! refl (stop !)))) (look-tag ! 7 (whole !))) $
+  nothing-arm is-e = switches-on ! (load ! (from ! (vrt ! refl (fld ! refl (stop !)))) (look-tag ! 13 (whole !))) $
       exec ! (𝓣 .C) (𝓣 .Λ) En (nth-arm 0 s-1) (Then event.Nothing) $ silent event.Nothing
 
   pub unreadable-arm : Matched event.Unreadable
-  unreadable-arm is-e = switches-on ! (load ! (from ! (vrt ! refl (fld ! refl (stop !)))) (look-tag ! 7 (whole !))) $
+  unreadable-arm is-e = switches-on ! (load ! (from ! (vrt ! refl (fld ! refl (stop !)))) (look-tag ! 13 (whole !))) $
       exec ! (𝓣 .C) (𝓣 .Λ) En (nth-arm 0 s-1) (Then event.Unreadable) $ silent event.Unreadable
 
   pub state-arm : Matched event.State
-  state-arm is-e = switches-on ! (load ! (from ! (vrt ! refl (fld ! refl (stop !)))) (look-tag ! 7 (whole !))) $
+  state-arm is-e = switches-on ! (load ! (from ! (vrt ! refl (fld ! refl (stop !)))) (look-tag ! 13 (whole !))) $
       exec ! (𝓣 .C) (𝓣 .Λ) En (nth-arm 0 s-1) (Then event.State) $ silent event.State
 
-  pub entry-arm : Triple 𝓤 (𝓣 .C #entry) (shape.Enters 𝓤 H A W memory run m p h ys) → (i : ℕ) (x y z : Bool) → Matched (event.Entry i x y z)
+  pub entry-arm : Triple 𝓤 (𝓣 .C #entry) (shape.Enters 𝓤 H A W memory run m p h ys l) → (i : ℕ) (x y z : Bool) → Matched (event.Entry i x y z)
   entry-arm known i x y z is-e =
       let e : Event = event.Entry i x y z in
       let i-fits = EL.owed X.the-type X′.the-laws (event.Entry i x y z) _ is-e .0 .1 in
-      switches-on ! (load ! (from ! (vrt ! refl (fld ! refl (stop !)))) (look-tag ! 7 (whole !))) $ exec ! (𝓣 .C) (𝓣 .Λ) En (nth-arm 5 s-1) (Then e) $
-      sets ! (of-opd ! (load ! (from ! (vrt ! refl (fld ! {d = 4} refl (stop !)))) (look-in ! 7 (in-variant ! 5 0 {d = 4} refl refl (whole !))))) 17 refl
+      switches-on ! (load ! (from ! (vrt ! refl (fld ! refl (stop !)))) (look-tag ! 13 (whole !))) $ exec ! (𝓣 .C) (𝓣 .Λ) En (nth-arm 5 s-1) (Then e) $
+      sets ! (of-opd ! (load ! (from ! (vrt ! refl (fld ! {d = 4} refl (stop !)))) (look-in ! 13 (in-variant ! 5 0 {d = 4} refl refl (whole !))))) 23 refl
       (tt, record { fits = i-fits }) $
-      sets ! (of-opd ! (load ! (from ! (vrt ! refl (fld ! {d = 8} refl (stop !)))) (look-in ! 7 (in-variant ! 5 1 {d = 8} refl refl (whole !))))) 18 refl
+      sets ! (of-opd ! (load ! (from ! (vrt ! refl (fld ! {d = 8} refl (stop !)))) (look-in ! 13 (in-variant ! 5 1 {d = 8} refl refl (whole !))))) 24 refl
       (tt, tt) $
-      sets ! (of-opd ! (load ! (from ! (vrt ! refl (fld ! {d = 9} refl (stop !)))) (look-in ! 7 (in-variant ! 5 2 {d = 9} refl refl (whole !))))) 19 refl
+      sets ! (of-opd ! (load ! (from ! (vrt ! refl (fld ! {d = 9} refl (stop !)))) (look-in ! 13 (in-variant ! 5 2 {d = 9} refl refl (whole !))))) 25 refl
       (tt, tt) $
-      sets ! (of-opd ! (load ! (from ! (vrt ! refl (fld ! {d = 10} refl (stop !)))) (look-in ! 7 (in-variant ! 5 3 {d = 10} refl refl (whole !))))) 20 refl
+      sets ! (of-opd ! (load ! (from ! (vrt ! refl (fld ! {d = 10} refl (stop !)))) (look-in ! 13 (in-variant ! 5 3 {d = 10} refl refl (whole !))))) 26 refl
       (tt, tt) $
-      sets ! (addr ! (from ! (hop ! (look ! 5 refl) (stop !)))) 35 refl (tt, tt) $
+      sets ! (addr ! (from ! (hop ! (look ! 9 refl) (stop !)))) 45 refl (tt, tt) $
       modules 𝓤 H A W memory run m p h ys 𝓣 ! (plain (λ _. u32) ∷ plain (λ _. bool) ∷ plain (λ _. bool) ∷ plain (λ _. bool) ∷ [])
       (yes, (yes, (yes, (yes, tt)))) (plain (λ _. P.the-row)) (entry.clauses 𝓤 H A memory run) known
       (λ α. machP) (λ α. EL.tells P.the-type P′.the-laws) (λ α. (
@@ -102,51 +103,51 @@ module _ {M : Type 1} (𝓤 : URA M) (H : Heap 𝓤) (A : Atoms 𝓤) (W : Given
       ))
       (λ α. (i, (x, (y, (z, tt))))) (λ α. (vint w32 i ∷ [], (vbool x ∷ [], (vbool y ∷ [], (vbool z ∷ [], tt)))))
       (λ α. ((refl, i-fits), (refl, (refl, (refl, tt))))) (λ α γ₁. tt) (λ α γ₁. id⊢ 𝓤 (emp 𝓤))
-      (λ α γ₁ lent. and-then ! (var ! 35 refl) (and-then ! (var ! 17 refl) (and-then ! (var ! 18 refl)
-      (and-then ! (var ! 19 refl) (and-then ! (var ! 20 refl) (no-more !)))))) (λ α a a-is h′.
+      (λ α γ₁ lent. and-then ! (var ! 45 refl) (and-then ! (var ! 23 refl) (and-then ! (var ! 24 refl)
+      (and-then ! (var ! 25 refl) (and-then ! (var ! 26 refl) (no-more !)))))) (λ α a a-is h′.
       let is = EL.owes N.the-type N′.the-laws (answer.Presentation a) (a-is, tt) in
-      land ! (from ! (stop !)) (init ! 34 refl (typedP 𝓤 H A W a a-is)) $
-      assigns-last ! (agg ! (and-then ! (lit ! tt) (and-then ! (var ! 34 refl) (no-more !)))) (from ! (stop !))
-      (init ! 26 refl (typedN 𝓤 H A W (answer.Presentation a) is)) $ exec ! (𝓣 .C) (𝓣 .Λ) En t-2 (atRet En (Post′ e)) $
-      sets ! (of-opd ! (var ! 26 refl)) 4 refl (typedN 𝓤 H A W (answer.Presentation a) is) $
-      shape.leaves 𝓤 H A W memory run m p h ys 𝓣 bs e (answer.Presentation a) is h′ ys refl)
+      land ! (from ! (stop !)) (init ! 44 refl (typedP 𝓤 H A W a a-is)) $
+      assigns-last ! (agg ! (and-then ! (lit ! tt) (and-then ! (var ! 44 refl) (no-more !)))) (from ! (stop !))
+      (init ! 36 refl (typedN 𝓤 H A W (answer.Presentation a) is)) $ exec ! (𝓣 .C) (𝓣 .Λ) En t-2 (atRet En (Post′ e)) $
+      sets ! (of-opd ! (var ! 36 refl)) 8 refl (typedN 𝓤 H A W (answer.Presentation a) is) $
+      shape.leaves 𝓤 H A W memory run m p h ys l 𝓣 bs e (answer.Presentation a) is h′ ys (l .told) refl)
 
-  pub non-delivery-arm : Triple 𝓤 (𝓣 .C #non-delivery) (shape.NonDelivers 𝓤 H A W memory run m p h ys) → (i : ℕ) → Matched (event.NonDelivery i)
+  pub non-delivery-arm : Triple 𝓤 (𝓣 .C #non-delivery) (shape.NonDelivers 𝓤 H A W memory run m p h ys l) → (i : ℕ) → Matched (event.NonDelivery i)
   non-delivery-arm known i is-e =
       let e : Event = event.NonDelivery i in
       let i-fits = EL.owed X.the-type X′.the-laws (event.NonDelivery i) _ is-e .0 .1 in
-      switches-on ! (load ! (from ! (vrt ! refl (fld ! refl (stop !)))) (look-tag ! 7 (whole !))) $ exec ! (𝓣 .C) (𝓣 .Λ) En (nth-arm 6 s-1) (Then e) $
-      sets ! (of-opd ! (load ! (from ! (vrt ! refl (fld ! {d = 4} refl (stop !)))) (look-in ! 7 (in-variant ! 6 0 {d = 4} refl refl (whole !))))) 21 refl
+      switches-on ! (load ! (from ! (vrt ! refl (fld ! refl (stop !)))) (look-tag ! 13 (whole !))) $ exec ! (𝓣 .C) (𝓣 .Λ) En (nth-arm 6 s-1) (Then e) $
+      sets ! (of-opd ! (load ! (from ! (vrt ! refl (fld ! {d = 4} refl (stop !)))) (look-in ! 13 (in-variant ! 6 0 {d = 4} refl refl (whole !))))) 27 refl
       (tt, record { fits = i-fits }) $
-      sets ! (addr ! (from ! (hop ! (look ! 5 refl) (stop !)))) 37 refl (tt, tt) $
+      sets ! (addr ! (from ! (hop ! (look ! 9 refl) (stop !)))) 47 refl (tt, tt) $
       modules 𝓤 H A W memory run m p h ys 𝓣 ! (plain (λ _. u32) ∷ []) (yes, tt) (plain (λ _. O.the-row)) (non-delivery.clauses 𝓤 H A memory run) known
       (λ α. machO) (λ α. EL.tells O.the-type O′.the-laws) (λ α. (uint-makes 𝓤 H A W w32, tt)) (λ α. (i, tt)) (λ α. (vint w32 i ∷ [], tt))
       (λ α. ((refl, i-fits), tt)) (λ α γ₁. tt) (λ α γ₁. id⊢ 𝓤 (emp 𝓤))
-      (λ α γ₁ lent. and-then ! (var ! 37 refl) (and-then ! (var ! 21 refl) (no-more !))) (λ α a a-is h′.
+      (λ α γ₁ lent. and-then ! (var ! 47 refl) (and-then ! (var ! 27 refl) (no-more !))) (λ α a a-is h′.
       let is = EL.owes N.the-type N′.the-laws (answer.Outcome a) (a-is, tt) in
-      land ! (from ! (stop !)) (init ! 36 refl (typedO 𝓤 H A W a a-is)) $
-      assigns-last ! (agg ! (and-then ! (lit ! tt) (and-then ! (var ! 36 refl) (no-more !)))) (from ! (stop !))
-      (init ! 26 refl (typedN 𝓤 H A W (answer.Outcome a) is)) $ exec ! (𝓣 .C) (𝓣 .Λ) En t-2 (atRet En (Post′ e)) $
-      sets ! (of-opd ! (var ! 26 refl)) 4 refl (typedN 𝓤 H A W (answer.Outcome a) is) $
-      shape.leaves 𝓤 H A W memory run m p h ys 𝓣 bs e (answer.Outcome a) is h′ ys refl)
+      land ! (from ! (stop !)) (init ! 46 refl (typedO 𝓤 H A W a a-is)) $
+      assigns-last ! (agg ! (and-then ! (lit ! tt) (and-then ! (var ! 46 refl) (no-more !)))) (from ! (stop !))
+      (init ! 36 refl (typedN 𝓤 H A W (answer.Outcome a) is)) $ exec ! (𝓣 .C) (𝓣 .Λ) En t-2 (atRet En (Post′ e)) $
+      sets ! (of-opd ! (var ! 36 refl)) 8 refl (typedN 𝓤 H A W (answer.Outcome a) is) $
+      shape.leaves 𝓤 H A W memory run m p h ys l 𝓣 bs e (answer.Outcome a) is h′ ys (l .told) refl)
 
-  pub call-arm : Triple 𝓤 (𝓣 .C #calling) (shape.Calls 𝓤 H A W memory run m p h ys) → (i x y z : ℕ) → Matched (event.Call i x y z)
+  pub call-arm : Triple 𝓤 (𝓣 .C #calling) (shape.Calls 𝓤 H A W memory run m p h ys l) → (i x y z : ℕ) → Matched (event.Call i x y z)
   call-arm known i x y z is-e =
       let e : Event = event.Call i x y z in
       let i-fits = EL.owed X.the-type X′.the-laws (event.Call i x y z) _ is-e .0 .1 in
       let x-fits = EL.owed X.the-type X′.the-laws (event.Call i x y z) _ is-e .1 .0 .1 in
       let y-fits = EL.owed X.the-type X′.the-laws (event.Call i x y z) _ is-e .1 .1 .0 .1 in
       let z-fits = EL.owed X.the-type X′.the-laws (event.Call i x y z) _ is-e .1 .1 .1 .0 .1 in
-      switches-on ! (load ! (from ! (vrt ! refl (fld ! refl (stop !)))) (look-tag ! 7 (whole !))) $ exec ! (𝓣 .C) (𝓣 .Λ) En (nth-arm 4 s-1) (Then e) $
-      sets ! (of-opd ! (load ! (from ! (vrt ! refl (fld ! {d = 4} refl (stop !)))) (look-in ! 7 (in-variant ! 4 0 {d = 4} refl refl (whole !))))) 13 refl
+      switches-on ! (load ! (from ! (vrt ! refl (fld ! refl (stop !)))) (look-tag ! 13 (whole !))) $ exec ! (𝓣 .C) (𝓣 .Λ) En (nth-arm 4 s-1) (Then e) $
+      sets ! (of-opd ! (load ! (from ! (vrt ! refl (fld ! {d = 4} refl (stop !)))) (look-in ! 13 (in-variant ! 4 0 {d = 4} refl refl (whole !))))) 19 refl
       (tt, record { fits = i-fits }) $
-      sets ! (of-opd ! (load ! (from ! (vrt ! refl (fld ! {d = 8} refl (stop !)))) (look-in ! 7 (in-variant ! 4 1 {d = 8} refl refl (whole !))))) 14 refl
+      sets ! (of-opd ! (load ! (from ! (vrt ! refl (fld ! {d = 8} refl (stop !)))) (look-in ! 13 (in-variant ! 4 1 {d = 8} refl refl (whole !))))) 20 refl
       (tt, record { fits = x-fits }) $
-      sets ! (of-opd ! (load ! (from ! (vrt ! refl (fld ! {d = 12} refl (stop !)))) (look-in ! 7 (in-variant ! 4 2 {d = 12} refl refl (whole !))))) 15 refl
+      sets ! (of-opd ! (load ! (from ! (vrt ! refl (fld ! {d = 12} refl (stop !)))) (look-in ! 13 (in-variant ! 4 2 {d = 12} refl refl (whole !))))) 21 refl
       (tt, record { fits = y-fits }) $
-      sets ! (of-opd ! (load ! (from ! (vrt ! refl (fld ! {d = 16} refl (stop !)))) (look-in ! 7 (in-variant ! 4 3 {d = 16} refl refl (whole !))))) 16 refl
+      sets ! (of-opd ! (load ! (from ! (vrt ! refl (fld ! {d = 16} refl (stop !)))) (look-in ! 13 (in-variant ! 4 3 {d = 16} refl refl (whole !))))) 22 refl
       (tt, record { fits = z-fits }) $
-      sets ! (addr ! (from ! (hop ! (look ! 5 refl) (stop !)))) 33 refl (tt, tt) $
+      sets ! (addr ! (from ! (hop ! (look ! 9 refl) (stop !)))) 43 refl (tt, tt) $
       modules 𝓤 H A W memory run m p h ys 𝓣 ! (plain (λ _. u32) ∷ plain (λ _. u32) ∷ plain (λ _. u32) ∷ plain (λ _. u64) ∷ [])
       (yes, (yes, (yes, (yes, tt)))) (plain (λ _. O.the-row)) (calling.clauses 𝓤 H A memory run) known
       (λ α. machO) (λ α. EL.tells O.the-type O′.the-laws) (λ α. (
@@ -155,11 +156,11 @@ module _ {M : Type 1} (𝓤 : URA M) (H : Heap 𝓤) (A : Atoms 𝓤) (W : Given
       ))
       (λ α. (i, (x, (y, (z, tt))))) (λ α. (vint w32 i ∷ [], (vint w32 x ∷ [], (vint w32 y ∷ [], (vint w64 z ∷ [], tt)))))
       (λ α. ((refl, i-fits), ((refl, x-fits), ((refl, y-fits), ((refl, z-fits), tt))))) (λ α γ₁. tt) (λ α γ₁. id⊢ 𝓤 (emp 𝓤))
-      (λ α γ₁ lent. and-then ! (var ! 33 refl) (and-then ! (var ! 13 refl) (and-then ! (var ! 14 refl)
-      (and-then ! (var ! 15 refl) (and-then ! (var ! 16 refl) (no-more !)))))) (λ α a a-is h′.
+      (λ α γ₁ lent. and-then ! (var ! 43 refl) (and-then ! (var ! 19 refl) (and-then ! (var ! 20 refl)
+      (and-then ! (var ! 21 refl) (and-then ! (var ! 22 refl) (no-more !)))))) (λ α a a-is h′.
       let is = EL.owes N.the-type N′.the-laws (answer.Outcome a) (a-is, tt) in
-      land ! (from ! (stop !)) (init ! 32 refl (typedO 𝓤 H A W a a-is)) $
-      assigns-last ! (agg ! (and-then ! (lit ! tt) (and-then ! (var ! 32 refl) (no-more !)))) (from ! (stop !))
-      (init ! 26 refl (typedN 𝓤 H A W (answer.Outcome a) is)) $ exec ! (𝓣 .C) (𝓣 .Λ) En t-2 (atRet En (Post′ e)) $
-      sets ! (of-opd ! (var ! 26 refl)) 4 refl (typedN 𝓤 H A W (answer.Outcome a) is) $
-      shape.leaves 𝓤 H A W memory run m p h ys 𝓣 bs e (answer.Outcome a) is h′ ys refl)
+      land ! (from ! (stop !)) (init ! 42 refl (typedO 𝓤 H A W a a-is)) $
+      assigns-last ! (agg ! (and-then ! (lit ! tt) (and-then ! (var ! 42 refl) (no-more !)))) (from ! (stop !))
+      (init ! 36 refl (typedN 𝓤 H A W (answer.Outcome a) is)) $ exec ! (𝓣 .C) (𝓣 .Λ) En t-2 (atRet En (Post′ e)) $
+      sets ! (of-opd ! (var ! 36 refl)) 8 refl (typedN 𝓤 H A W (answer.Outcome a) is) $
+      shape.leaves 𝓤 H A W memory run m p h ys l 𝓣 bs e (answer.Outcome a) is h′ ys (l .told) refl)

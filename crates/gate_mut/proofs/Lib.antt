@@ -15,3 +15,4 @@ pub mod Served
 pub mod Sets
 pub mod TwoLists
 pub mod Walk
+pub mod WholeFields

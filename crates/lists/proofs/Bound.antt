@@ -18,7 +18,8 @@ use Rattle.model.specs.declared.Request.the-variants as request
 use Rattle.model.specs.declared.Vcpu.{Vcpu}
 use Rattle.model.specs.declared.Module.{Module}
 use Rattle.model.specs.State.{isActive, size, vcpuAt, withVcpu}
-use Rattle.model.specs.Codes.{codeOf, accept, refuse, Answer, nothing, presents, window, Result, done, counted, coded, refused, accepted, presentedIn, presentedBy}
+use Rattle.model.specs.Codes.{codeOf, accept, refuse, Answer, nothing, presents, window, Result, done, counted, coded, refused, accepted}
+use Rattle.model.specs.Codes.{presentedIn, presentedBy}
 use Rattle.model.specs.Items.{isMachineCheck, InRange, sameItem, isItem, itemInFlight, pending, unmarkAll}
 use Rattle.model.specs.Doorbell.{Part, inPart, admitted}
 use Rattle.model.specs.Ipi.{icrItem, icrTarget, hits, reach, sent}

@@ -20,7 +20,8 @@ use Rattle.lists.specs.WorkedList.{listed, paired, checked, valued, judg
 use Rattle.model.specs.Ipi.{icrReservedClear, icrIsFixed, icrIsNmi, icrLegal, icrItem, icrTarget, hits, reach, mapFrom, sent, newBits}
 
 pub worked-list : WorkedList
-unfolding listed paired checked valued permitsEach singleAfter listAfter listCodes judged parts bookOf recordAt withRecord withCount leavesAtZero takesOne addsOne registers permits called leaves feedAct
+unfolding listed paired checked valued permitsEach singleAfter listAfter listCodes judged
+    parts bookOf recordAt withRecord withCount leavesAtZero takesOne addsOne registers permits called leaves feedAct
     partOn results handBackPages pages struck writeSends postAct ledger run giveBack undelivered icrReservedClear icrIsFixed icrIsNmi icrLegal icrItem
     icrTarget hits reach mapFrom sent newBits itemCount itemsNew itemsMerged bits has words collect empty full insert remove union difference
     highestBelow highest countBelow count isEmpty wordOf bare size vcpuAt started start stopped withVcpu withRegistrations mark unmark markAll

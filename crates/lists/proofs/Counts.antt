@@ -52,7 +52,8 @@ count-act i (entry iF sh bl) w = omega arith
 count-act i nonDelivery w = omega arith
 count-act i (handBack len iF sh) w = one-of w (ltb i (w .n) && isLeaving (recordAt w i .phase) && leb 256 len) _ _ (omega arith) (omega arith)
 count-act i (allow cs len) w =
-    one-of w (ltb i (w .n) && isActive (recordAt w i .phase) && (leb (length cs) 256 && leb (length cs) len)) _ _ (omega (arith, count-each i cs w)) (omega arith)
+    one-of w (ltb i (w .n) && isActive (recordAt w i .phase) && (leb (length cs) 256 && leb (length cs) len)) _ _ (omega (arith, count-each i cs w))
+    (omega arith)
 
 pub count-feed : (w : Book) (e : Note) → feed w e .count ≤ w .count + 1
 count-feed w e = count-act (e .vcpu) (e .act) w

@@ -12,7 +12,8 @@ use Rattle.vector_set.specs.Sets.{insert, remove}
 use Rattle.model.specs.State.{isActive, absent}
 use Rattle.model.specs.Requests.{nameable}
 use Rattle.model.specs.Events.{call, allow, at}
-use Rattle.lists.specs.Book.{BookRecord, Book, Note, recordOf, recordAt, withRecord, withAllowed, permits, permitsEach, called, feedAct, feed, feedAll, FedAsCalls}
+use Rattle.lists.specs.Book.{BookRecord, Book, Note, recordOf, recordAt, withRecord, withAllowed, permits, permitsEach, called, feedAct, feed}
+use Rattle.lists.specs.Book.{feedAll, FedAsCalls}
 
 -- ---- the book lets the vCPU i be served: below n and active in it
 abbrev serves : ℕ → Book → Bool

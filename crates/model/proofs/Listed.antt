@@ -3,7 +3,7 @@
 use mathlib.Core.Path.{_≡_, refl, sym, ap, ap₂, _∙_, subst}
 use mathlib.Core.Bool.{Bool, true, false, cond, _&&_}
 use mathlib.Core.List.{List, [], _∷_, _++_}
-use Prim.Native.Nat.{ℕ, zero, suc, _+_, _-_, _%_, _≤_, _<_}
+use Prim.Native.Nat.{ℕ, zero, suc, _+_, _%_, _≤_, _<_}
 use native.Mathlib.Omega.{arith}
 use lib.Dec.{leb, ltb}
 use lib.ListN.{length, getD, drop}
@@ -20,10 +20,11 @@ use Rattle.model.specs.declared.Module.{Module}
 use Rattle.model.specs.State.{isActive, size, vcpuAt, withVcpu}
 use Rattle.model.specs.Codes.{codeOf, Verdict, accept, refuse, need, verdictCode, Result, done, coded, refused, accepted, codeIn}
 use Rattle.model.specs.Requests.{bad, nameable, permission, requestOf, forget, serve, callVerdict}
-use Rattle.model.specs.Events.{call, allow, at, Bytes, Event, listFits, vcpuVerdict, verdict, callEffect, single, byVerdict, singleAfter, listAfter}
-use Rattle.model.specs.Events.{listCodes, effect, Out, concluded, decided, step, next, run, final}
+use Rattle.model.specs.Events.{call, allow, at, Bytes, listFits, vcpuVerdict, verdict, callEffect, single, byVerdict, singleAfter, listAfter}
+use Rattle.model.specs.Events.{listCodes, effect, Out, concluded, step, next, run, final}
 use Rattle.model.specs.Demand2.{singles, codesOf, permitsApart}
-use Rattle.model.proofs.Stored.{on-put, vcpuAt-count, served-known, get-put, put-same, put-put, put-length, size-put, count-same, by-verdict, Known, known-of}
+use Rattle.model.proofs.Stored.{on-put, vcpuAt-count, get-put, put-same, put-put, put-length, size-put, count-same, by-verdict, Known}
+use Rattle.model.proofs.Stored.{served-known, known-of}
 use Rattle.model.proofs.IcrWrites.{over, asks, by-request}
 use Rattle.model.proofs.ListLaws.{after-one, after-each}
 
@@ -231,7 +232,8 @@ apart-permitted c true true i k v = refl
 apart-permitted c true false i k v = refl
 apart-permitted c false t i k v = refl
 
-apart-single : (i k : ℕ) (w : Vcpu) (c : ℕ) (v : Vcpu) → permitsApart v ≡ permitsApart w → permitsApart (callEffect (requestOf 4 c 0) i k v .vcpu) ≡ permitsApart w
+apart-single : (i k : ℕ) (w : Vcpu) (c : ℕ) (v : Vcpu) → permitsApart v ≡ permitsApart w
+    → permitsApart (callEffect (requestOf 4 c 0) i k v .vcpu) ≡ permitsApart w
 unfolding requestOf permission
 apart-single i k w c v h = apart-permitted c (nameable c) (bitAt c 8) i k v ∙ h
 

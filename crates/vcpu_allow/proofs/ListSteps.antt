@@ -1,24 +1,19 @@
 -- A list of ECX values on the module: what the function of the values gives, stored in the vCPU's record, is the model's step.
 -- Assumes nothing.
 use mathlib.Core.Path.{_≡_, refl, sym, ap, ap₂, _∙_}
-use mathlib.Core.Bool.{Bool, true, false, cond, _||_}
+use mathlib.Core.Bool.{Bool, true, false, _||_}
 use mathlib.Core.List.{List, [], _∷_, _++_, map}
 use Prim.Native.Nat.{ℕ, suc, _<_}
-use lib.Dec.{ltb}
 use lib.ListN.{length, take, drop}
 use borrow.Author.Tests.{lt-ltb}
 use Rattle.model.specs.declared.InFlight.the-variants.{Nothing}
-use Rattle.model.specs.declared.Local.the-variants as local
-use Rattle.model.specs.declared.Refusal.the-variants.{UnknownVcpu, NotActive, BadList}
-use Rattle.model.specs.declared.Request.{Request}
-use Rattle.model.specs.declared.Request.the-variants as request
-use Rattle.model.specs.declared.Stepped.{Stepped}
+use Rattle.model.specs.declared.Refusal.the-variants.{NotActive}
 use Rattle.model.specs.declared.Vcpu.{Vcpu}
 use Rattle.model.specs.declared.Module.{Module}
 use Rattle.model.specs.State.{isActive, size, vcpuAt, withVcpu, withAllowed, withFlight}
-use Rattle.model.specs.Codes.{Verdict, accept, refuse, need, verdictCode, coded}
+use Rattle.model.specs.Codes.{Verdict, accept, refuse, verdictCode, coded}
 use Rattle.model.specs.Requests.{nameable, permission, requestOf, forget, serve, callVerdict}
-use Rattle.model.specs.Events.{allow, at, listFits, vcpuVerdict, verdict, callEffect, single, byVerdict, singleAfter, listAfter, listCodes, effect, Out}
+use Rattle.model.specs.Events.{allow, at, vcpuVerdict, verdict, callEffect, single, byVerdict, singleAfter, listAfter, listCodes, effect}
 use Rattle.model.specs.Events.{concluded, decided, step, listedOut}
 use Rattle.vector_set.specs.Bits.{bitAt}
 use Rattle.vector_set.proofs.Laws.{clash}

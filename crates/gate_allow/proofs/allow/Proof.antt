@@ -50,7 +50,8 @@ returns-3 c =
     let r = c .before .before .before .before .before .before .allow-values in
     let s = list-stored (a .t1) (a .vcpu) (a .values .now) (a .codes .now) _ (record-is (a .t1) (a .vcpu) _ (below-32 (a .t1) (here e)) l)
     (r .result) (r .last .1 .0) (here e) (r .ensures) (flag _ (c .before .before .if2 .left)) in
-    ap (λ (u : Vcpu). listedOut (record { outcome = r .result .outcome; after = withVcpu (a .t1) (a .vcpu) u }) (a .values .now) (r .last .1 .0)) (c .with-flight .ensures)
+    ap (λ (u : Vcpu). listedOut (record { outcome = r .result .outcome; after = withVcpu (a .t1) (a .vcpu) u }) (a .values .now) (r .last .1 .0))
+    (c .with-flight .ensures)
     ∙ s
 
 pub allow-spec : {M : Type 1} → statement M

@@ -1,5 +1,5 @@
 -- `vcpu_calls::self_named` meets its contract: the vector was pending, or not. Assumes nothing.
-use mathlib.Core.Path.{_≡_, refl, sym, ap, _∙_}
+use mathlib.Core.Path.{_≡_, sym, _∙_}
 use mathlib.Core.Bool.{Bool, true, false, not, _&&_, and-true, and-false}
 use Prim.Native.Nat.{ℕ, _+_}
 use lib.Dec.{eqb}

@@ -5,7 +5,7 @@ use crate::set::VectorSet;
 use crate::state::{Module, Phase};
 
 /// 12.9. Kinds of event that the book never heeds are left out. Of a second list it sees the length
-/// (A5).
+/// (12.24, 12.25).
 pub enum Entry<'a> {
     Call {
         vcpu: u32,
@@ -95,7 +95,7 @@ impl Book {
         }
     }
 
-    /// A5: as so many calls 4; a list that would be refused changes nothing.
+    /// 12.24, 12.25: as so many calls 4; a list that would be refused changes nothing.
     fn allow_all(&mut self, vcpu: u32, values: &[u32], length: usize) {
         if !self.active(vcpu) || values.len() > 256 || length < values.len() {
             return;

@@ -12,7 +12,7 @@ pub const NOT_LEAVING: Code = 3;
 pub const NOTHING_IN_FLIGHT: Code = 4;
 /// 11.5
 pub const BAD_START: Code = 5;
-/// Of a list of values (A5)
+/// Of a list of values (11.21)
 pub const BAD_LIST: Code = 6;
 /// 11.6
 pub const NOT_ACTIVE: Code = 0x8000_0001;

@@ -24,7 +24,7 @@ pub type Gate = fn(&mut Module, &mut Event) -> Answer;
 pub struct Played {
     pub answers: Vec<Answer>,
     pub hand_back_pages: Vec<Vec<u8>>,
-    /// The second lists, each after its event (A5).
+    /// The second lists, each after its event (5.29).
     pub codes: Vec<Vec<u32>>,
     pub module: Module,
 }

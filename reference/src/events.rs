@@ -38,7 +38,7 @@ pub enum Event {
         shadow: bool,
         page: Vec<u8>,
     },
-    /// A list of ECX values and the second list, which receives their codes (A5).
+    /// A list of ECX values and the second list, which receives their codes (5.26).
     Allow {
         vcpu: u32,
         values: Vec<u32>,
@@ -240,7 +240,7 @@ pub fn hand_back(
     Ok(result)
 }
 
-/// A5: each value is a call 4 of its own, and the next one finds what it left.
+/// 5.26 to 5.32, 11.22: each value is a call 4 of its own, and the next one finds what it left.
 pub fn allow(m: &mut Module, vcpu: u32, values: &[u32], codes: &mut [u32]) -> Result<u32, Code> {
     m.active(vcpu)?;
     check_lists(values.len(), codes.len())?;
@@ -250,7 +250,7 @@ pub fn allow(m: &mut Module, vcpu: u32, values: &[u32], codes: &mut [u32]) -> Re
     Ok(0)
 }
 
-/// A5
+/// 11.21
 fn check_lists(values: usize, codes: usize) -> Result<(), Code> {
     if values <= 256 && codes >= values {
         Ok(())

@@ -1,4 +1,4 @@
-//! The lists of ECX values in a trace (A5): their sizes, what becomes of them, and what is in flight
+//! The lists of ECX values in a trace (5.26): their sizes, what becomes of them, and what is in flight
 //! meanwhile.
 
 use std::collections::BTreeSet;

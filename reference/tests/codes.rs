@@ -127,7 +127,7 @@ fn what_call_4_takes() {
     }
 }
 
-/// 11.12 to 11.17, 11.19; lists (A5)
+/// 11.12 to 11.17, 11.19, 11.21, 11.22
 #[test]
 fn the_order_of_the_checks() {
     let mut m = fresh(2, 1);

@@ -124,7 +124,7 @@ fn pages() {
     }
 }
 
-/// A list of values, its second list as long as LENGTH says and FILL throughout (A5).
+/// A list of values, its second list as long as LENGTH says and FILL throughout.
 #[test]
 fn lists_of_values() {
     let event = Event::Allow {

@@ -55,7 +55,7 @@ fn everything_occurs() {
     assert!(coverage.complete(), "{}", coverage.report());
 }
 
-/// Requests meet their item pending in every way, and often; lists of values are of every kind (A5).
+/// Requests meet their item pending in every way, and often; lists of values are of every kind (5.26).
 #[test]
 fn merging_occurs() {
     let mut of_lists = value_lists::KINDS.map(|kind| (kind, 0));
@@ -77,7 +77,7 @@ fn merging_occurs() {
 }
 
 /// What a list leaves, said apart from call 4: of the accepted values for a vector the last one
-/// decides, and one accepted value is enough to forget what is in flight (A5).
+/// decides, and one accepted value is enough to forget what is in flight (5.32).
 #[test]
 fn what_a_list_leaves() {
     let mut m = Module::refused();

@@ -1,11 +1,11 @@
-//! The cases worked here (14.21 to 14.44, 14.46 to 14.71), on an implementation that was written apart from the definitions.
+//! The cases worked here (14.21 to 14.44, 14.46 to 14.71, 14.73 to 14.81), on an implementation that was written apart from the definitions.
 
 mod common;
 
 use common::*;
 use reference::calls::call;
-use reference::codes::{BAD_VALUE, NOTHING_IN_FLIGHT, SHORT_PAGE, UNKNOWN_VCPU};
-use reference::events::{entry, hand_back, non_delivery, notice, Shown};
+use reference::codes::*;
+use reference::events::{allow, entry, hand_back, non_delivery, notice, Shown};
 use reference::registers::{kind, Kind};
 use reference::set::VectorSet;
 use reference::state::{Item, Module, Phase, Record};
@@ -782,4 +782,117 @@ fn bits_7_0_are_cleared_where_marks_count() {
     assert_eq!(p, page(&[]));
     assert!(m.records[0].nmi && m.records[0].machine_check);
     assert_eq!(m.records[0].pending, set(&[0x41]));
+}
+
+/// A list on vCPU 0 with a second list of so many entries 9: the answer, and the second list after it.
+fn listed(m: &mut Module, values: &[u32], length: usize) -> (Result<u32, Code>, Vec<u32>) {
+    let mut codes = vec![9; length];
+    let answer = allow(m, 0, values, &mut codes);
+    (answer, codes)
+}
+
+/// 14.73
+#[test]
+fn a_worked_list_of_values() {
+    let values = [0x141, 0x11E, 0x152, 0x041];
+    let mut m = fresh(2, 1);
+    let after = listed(&mut m, &values, 6);
+    assert_eq!(after, (Ok(0), vec![0, BAD_VALUE, 0, 0, 9, 9]));
+    assert_eq!(m, allowing(&[0x52]));
+    let mut m = allowing(&[0x33]);
+    let after = listed(&mut m, &values, 4);
+    assert_eq!(after, (Ok(0), vec![0, BAD_VALUE, 0, 0]));
+    assert_eq!(m, allowing(&[0x33, 0x52]));
+}
+
+/// 14.74, 14.75
+#[test]
+fn values_in_their_order_and_at_their_edges() {
+    let mut m = fresh(2, 1);
+    assert_eq!(listed(&mut m, &[0x041, 0x141], 2), (Ok(0), vec![0, 0]));
+    assert_eq!(m, allowing(&[0x41]));
+    let mut m = fresh(2, 1);
+    assert_eq!(listed(&mut m, &[0x141, 0x041], 2), (Ok(0), vec![0, 0]));
+    assert_eq!(m, fresh(2, 1));
+    let values = [0x102, 0x112, 0x103, 0x341, 0x8000_0141, 0x11F, 0x1FF];
+    let codes = vec![0, 0, BAD_VALUE, BAD_VALUE, BAD_VALUE, 0, 0];
+    assert_eq!(listed(&mut m, &values, 7), (Ok(0), codes));
+    let mut m = fresh(2, 1);
+    assert_eq!(listed(&mut m, &[0x102, 0x341, 0x112], 3).0, Ok(0));
+    assert_eq!(m, allowing(&[2, 18]));
+}
+
+/// 14.76, 14.77
+#[test]
+fn lists_and_what_is_in_flight() {
+    assert_eq!(listed(&mut fresh(2, 1), &[], 0), (Ok(0), vec![]));
+    assert_eq!(listed(&mut fresh(2, 1), &[], 2), (Ok(0), vec![9, 9]));
+    let returned = |values: &[u32], length: usize| {
+        let mut m = fresh(2, 1);
+        m.records[0] = pending(&[0x41], false);
+        assert_eq!(entry(&mut m, 0, true, false, false), Ok(presented(0x41)));
+        let _ = listed(&mut m, values, length);
+        non_delivery(&mut m, 0)
+    };
+    assert_eq!(returned(&[], 0), Ok(0));
+    assert_eq!(returned(&[0x11E, 0x341], 2), Ok(0));
+    assert_eq!(returned(&[0x11E, 0x152, 0x341], 3), Err(NOTHING_IN_FLIGHT));
+    assert_eq!(returned(&[0x152], 0), Ok(0));
+}
+
+/// 14.78, 14.79, 14.81
+#[test]
+fn lists_that_are_refused() {
+    let many = [0x141; 257];
+    assert_eq!(listed(&mut fresh(2, 1), &many[..256], 256).0, Ok(0));
+    for (count, length) in [(257, 257), (257, 300), (256, 255), (1, 0)] {
+        let after = listed(&mut fresh(2, 1), &many[..count], length);
+        assert_eq!(after, (Err(BAD_LIST), vec![9; length]));
+    }
+    let mut m = allowing(&[0x33]);
+    assert_eq!(listed(&mut m, &many[..3], 2), (Err(BAD_LIST), vec![9, 9]));
+    assert_eq!(m, allowing(&[0x33]));
+    assert_eq!(allow(&mut m, 2, &many, &mut []), Err(UNKNOWN_VCPU));
+    m.records[0].phase = Phase::Leaving;
+    assert_eq!(listed(&mut m, &many, 300).0, Err(NOT_ACTIVE));
+    assert_eq!(listed(&mut m, &many[..1], 0).0, Err(NOT_ACTIVE));
+    m.records[0].phase = Phase::Left;
+    assert_eq!(listed(&mut m, &many[..1], 1).0, Err(NOT_ACTIVE));
+    assert_eq!(call(&mut fresh(2, 1), 0, 5, 0x141, 0), Err(UNKNOWN_CALL));
+}
+
+/// 14.80, the tallies apart
+#[test]
+fn a_worked_list_with_lists_of_values() {
+    let mut m = fresh(1, 1);
+    let disk = |m: &mut Module| notice(m, 0, &mut page(&[(3, 1), (64, 0x41)]));
+    let shown = Ok(presented(0x41));
+    let codes = vec![0, 0, BAD_VALUE, 0, 9];
+    assert_eq!(
+        listed(&mut m, &[0x041, 0x141, 0x11E, 0x102], 5),
+        (Ok(0), codes)
+    );
+    assert_eq!(disk(&mut m), counted(1, 0));
+    assert_eq!(entry(&mut m, 0, true, false, false), shown);
+    assert_eq!(listed(&mut m, &[0x11E], 1), (Ok(0), vec![BAD_VALUE]));
+    assert_eq!(non_delivery(&mut m, 0), Ok(0));
+    assert_eq!(entry(&mut m, 0, true, false, false), shown);
+    assert_eq!(
+        listed(&mut m, &[0x11E, 0x041], 2),
+        (Ok(0), vec![BAD_VALUE, 0])
+    );
+    assert_eq!(non_delivery(&mut m, 0), Err(NOTHING_IN_FLIGHT));
+    assert_eq!(disk(&mut m), counted(0, 0));
+    assert_eq!(listed(&mut m, &[0x141, 0x152], 1), (Err(BAD_LIST), vec![9]));
+    assert_eq!(disk(&mut m), counted(0, 0));
+    assert_eq!(
+        notice(&mut m, 0, &mut page(&[(3, 1), (65, 0x01)])),
+        counted(1, 0)
+    );
+    assert_eq!(allow(&mut m, 1, &[0x141], &mut []), Err(UNKNOWN_VCPU));
+    assert_eq!(call(&mut m, 0, 1, DEREGISTER, 0), Ok(0));
+    assert_eq!(listed(&mut m, &[0x141], 0).0, Err(NOT_ACTIVE));
+    let mut p = page(&[]);
+    assert_eq!(hand_back(&mut m, 0, &mut p, true, false), Ok(65_537));
+    assert_eq!(p, page(&[(65, 0x01), (104, 0x02)]));
 }

@@ -251,7 +251,7 @@ fn list_takes_pending(m: &mut Module, event: &mut Event) -> Answer {
     })
 }
 
-/// Each of these comes to show in an answer or a second list (A5).
+/// Each of these comes to show in an answer or a second list (5.26 to 5.32).
 #[test]
 fn wrong_lists_differ() {
     for (name, gate) in [

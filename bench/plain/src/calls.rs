@@ -61,7 +61,7 @@ fn registration(registrations: &mut u8, v: &mut Vcpu, ecx: u32) -> Outcome {
     Outcome::Done(0)
 }
 
-/// A list of values for call 4, a code for each (A5)
+/// A list of values for call 4, a code for each (5.26 to 5.32)
 #[inline(never)]
 #[export_name = "plain::allow"]
 pub fn allow(m: &mut Module, vcpu: u32, values: &[u32], codes: &mut [u32]) -> Outcome {

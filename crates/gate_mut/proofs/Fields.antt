@@ -43,8 +43,8 @@ use Rattle.model.proofs.Vcpu as R
 use Rattle.model.proofs.Vcpu.Laws as R′
 use Rattle.vcpu.proofs.Stores.{put-same, get-put, put-put}
 use Rattle.gate_mut.proofs.Lens.{machV, spot, put-cut, record-swap, within-reads, within-writes}
-pub use Rattle.gate_mut.proofs.WholeFields.{machS, set-typed, field-set, field-set-at, read-set, inner, WholeField, nmi-mark, check-mark, irr-set, allowed-set}
-pub use Rattle.gate_mut.proofs.WholeFields.{machF, in-flight}
+pub use Rattle.gate_mut.proofs.WholeFields.{machS, set-typed, field-set, field-set-at, read-set, inner, WholeField, nmi-mark, check-mark}
+pub use Rattle.gate_mut.proofs.WholeFields.{irr-set, allowed-set, machF, in-flight}
 
 -- Q is taken out of P; with Q′ in its place P is P′
 module _ {M : Type 1} (𝓤 : URA M) where

@@ -1,4 +1,4 @@
-//! Lists of ECX values (A5).
+//! Lists of ECX values (5.26).
 
 use super::{calls, Generator};
 use crate::calls::allow_rule;

@@ -56,7 +56,7 @@ fn every_value_has_its_code() {
 }
 
 #[test]
-fn a_refused_value_does_not_stop_the_rest() {
+fn the_list_goes_on_behind_a_refused_value() {
     let mut m = fresh(2, 1);
     let values = [0x11E, 0x141, 0x200, 0x113, 0x151, u32::MAX, 0];
     let (answer, codes) = listed(&mut m, &values, 7);

@@ -141,7 +141,7 @@ unfoldable pub handBackResult : ℕ → ℕ → Bool → Bool → ℕ
 handBackResult l tpr iF sh = l * 65536 + tpr * 256 + 2 * one sh + one iF
 
 -- ---- whether an event is accepted
--- the lengths fit: at most 256 values, and a second list that is as long or longer (5.31, 11.21)
+-- the lengths fit: the values are at most 256, and no more than the second list has entries (5.31, 11.21)
 abbrev pub listFits : List ℕ → List ℕ → Bool
 listFits cs q = leb (length cs) 256 && leb (length cs) (length q)
 

@@ -56,7 +56,7 @@ allowing33 = having (withAllowed (singleton 0x33) record0)
 
 unfoldable pub values : List Bool
 values =
-    -- 14.73: a refused value does not stop the rest; entries past the count stay
+    -- 14.73: the list goes on behind a refused value; entries past the count stay
     givesCodes 0 (0 ∷ bad ∷ 0 ∷ 0 ∷ []) (resultOn fresh2 (nines mixed 6))
     ∷ sameNumbers (pageAfter fresh2 (nines mixed 6)) (0 ∷ bad ∷ 0 ∷ 0 ∷ 9 ∷ 9 ∷ [])
     ∷ sameNumbers (allowedAfter fresh2 (nines mixed 6)) (singleton 0x52)
@@ -65,7 +65,7 @@ values =
     -- 14.74: out and in again, in this order
     ∷ sameNumbers (allowedAfter fresh2 (nines (0x041 ∷ 0x141 ∷ []) 2)) (singleton 0x41)
     ∷ sameNumbers (allowedAfter fresh2 (nines (0x141 ∷ 0x041 ∷ []) 2)) empty
-    -- 14.75: the members that stand for the NMI and the machine check, and values that call 4 refuses
+    -- 14.75: members 2 and 18, and values that call 4 refuses
     ∷ givesCodes 0 (0 ∷ 0 ∷ bad ∷ bad ∷ bad ∷ 0 ∷ 0 ∷ []) (resultOn fresh2 (nines (0x102 ∷ 0x112 ∷ 0x103 ∷ 0x341 ∷ 0x80000141 ∷ 0x11F ∷ 0x1FF ∷ []) 7))
     ∷ sameNumbers (allowedAfter fresh2 (nines (0x102 ∷ 0x341 ∷ 0x112 ∷ []) 3)) (insert 2 (singleton 18))
     -- 14.76: no value, with entries in the second list and with none

@@ -163,7 +163,7 @@ module _ (m : Module) (i : ℕ) (cs q : List ℕ) where
   by-list (refuse c) e = refl
   by-list accept e = sym (accepted-list (is-active e))
 
-  -- the function's answer, with the module after it and the second list, is the step
+  -- the function's answer, with module and second list as they are then, is the step
   pub list-step : (r : Listed) (zs : List ℕ) → i < size m → r ≡ listedOn verdictOn cs (v .allowed) → zs ≡ pageOn verdictOn (codesIn cs q) q
       → listedOut (record { outcome = r .outcome; after = afterList (r .accepts) (r .allowed) i m }) cs zs ≡ step m (at i (allow cs q))
   unfolding step

@@ -181,7 +181,7 @@ fn takes_one_place_less(m: &mut Module, event: &mut Event) -> Answer {
     })
 }
 
-/// A second list that is longer is refused.
+/// More entries than values are refused.
 fn wants_equal_lengths(m: &mut Module, event: &mut Event) -> Answer {
     on_lists(m, event, |m, vcpu, values, codes| {
         m.active(vcpu)?;

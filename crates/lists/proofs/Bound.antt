@@ -18,7 +18,7 @@ use Rattle.model.specs.declared.Request.the-variants as request
 use Rattle.model.specs.declared.Vcpu.{Vcpu}
 use Rattle.model.specs.declared.Module.{Module}
 use Rattle.model.specs.State.{isActive, size, vcpuAt, withVcpu}
-use Rattle.model.specs.Codes.{codeOf, accept, refuse, Answer, nothing, presents, window, Result, done, counted, coded, refused, accepted}
+use Rattle.model.specs.Codes.{codeOf, accept, refuse, Answer, nothing, presents, window, Result, done, counted, refused, accepted}
 use Rattle.model.specs.Codes.{presentedIn, presentedBy}
 use Rattle.model.specs.Items.{isMachineCheck, InRange, sameItem, isItem, itemInFlight, pending, unmarkAll}
 use Rattle.model.specs.Doorbell.{Part, inPart, admitted}
@@ -81,16 +81,6 @@ unread-counts j x s w i nonDelivery a b c d g = refl
 unread-counts j x s w i (handBack p iF sh) a b c d g = refl
 unread-counts j x s w i (allow cs q) a b c d g = refl
 
-unread-codes : (j : ℕ) (x : Item) (s : Part) (w : Book) (i : ℕ) (e : Act Bytes) (a b : ℕ) (ks ls : List ℕ) (g : Ledger)
-    → postAct j x s w i e (coded a ks) g ≡ postAct j x s w i e (coded b ls) g
-unfolding postAct
-unread-codes j x s w i (notice p) a b ks ls g = refl
-unread-codes j x s w i (call op k y) a b ks ls g = refl
-unread-codes j x s w i (entry iF sh bl) a b ks ls g = refl
-unread-codes j x s w i nonDelivery a b ks ls g = refl
-unread-codes j x s w i (handBack p iF sh) a b ks ls g = refl
-unread-codes j x s w i (allow cs q) a b ks ls g = refl
-
 quiet-list : (j : ℕ) (x : Item) (s : Part) (w : Book) (i : ℕ) (cs : List ℕ) (q : Bytes) (a : Result) (g : Ledger)
     → postAct j x s w i (allow cs q) a g ≡ g
 unfolding postAct
@@ -128,7 +118,6 @@ quiet =
       reads = quiet-read;
       numbers = unread-number;
       counts = unread-counts;
-      codes = unread-codes;
       lists = quiet-list;
       machineChecks = quiet-check;
       others = quiet-other;

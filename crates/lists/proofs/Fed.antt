@@ -10,10 +10,11 @@ use borrow.Author.Tests.{le-leb, lt-leb}
 use Rattle.vector_set.specs.Bits.{bitAt}
 use Rattle.vector_set.specs.Sets.{insert, remove}
 use Rattle.model.specs.State.{isActive, absent}
+use Rattle.model.specs.Doorbell.{noPart}
 use Rattle.model.specs.Requests.{nameable}
-use Rattle.model.specs.Events.{call, allow, at}
+use Rattle.model.specs.Events.{call, allow, at, Bytes}
 use Rattle.lists.specs.Book.{BookRecord, Book, Note, recordOf, recordAt, withRecord, withAllowed, permits, permitsEach, called, feedAct, feed}
-use Rattle.lists.specs.Book.{feedAll, FedAsCalls}
+use Rattle.lists.specs.Book.{feedAll, partOn, partBy, FedAsCalls}
 
 -- ---- the book lets the vCPU i be served: below n and active in it
 abbrev serves : ℕ → Book → Bool
@@ -77,5 +78,9 @@ too-short : (w : Book) (i : ℕ) (cs : List ℕ) (len : ℕ) → len < length cs
 unfolding feedAct
 too-short w i cs len l = rw (lt-leb (length cs) len l, and-false (leb (length cs) 256), and-false (serves i w))
 
+unadmitting : (l : ℕ) (w : Book) (i : ℕ) (cs : List ℕ) (q : Bytes) → partBy l w (at i (allow cs q)) ≡ noPart
+unfolding partOn
+unadmitting l w i cs q = refl
+
 pub fed-as-calls : FedAsCalls
-fed-as-calls = record { fitting = fitting; tooMany = too-many; tooShort = too-short }
+fed-as-calls = record { fitting = fitting; tooMany = too-many; tooShort = too-short; unadmitting = unadmitting }

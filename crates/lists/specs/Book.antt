@@ -128,13 +128,6 @@ unfoldable pub feedAll : Book → List Note → Book
 feedAll w [] = w
 feedAll w (e ∷ es) = feedAll (feed w e) es
 
--- a list whose lengths fit is fed as its single calls are, and another not at all (12.24, 12.25, 13.73)
-pub record FedAsCalls : Type 0 where
-  pub fitting : (w : Book) (i x : ℕ) (cs : List ℕ) (len : ℕ) → length cs ≤ 256 → length cs ≤ len
-      → feed w (at i (allow cs len)) ≡ feedAll w (map (λ c. at i (call 4 c x)) cs)
-  pub tooMany : (w : Book) (i : ℕ) (cs : List ℕ) (len : ℕ) → 256 < length cs → feed w (at i (allow cs len)) ≡ w
-  pub tooShort : (w : Book) (i : ℕ) (cs : List ℕ) (len : ℕ) → len < length cs → feed w (at i (allow cs len)) ≡ w
-
 -- ---- what is admitted by it, at the VMPL l
 -- the page of a notice, if the act is one
 abbrev pub noticePage : {P : Type 0} → Act P → Option P
@@ -159,3 +152,12 @@ partBy l w e = partOn l w (e .vcpu) (noticePage (e .act))
 unfoldable pub parts : ℕ → Book → List Event → List Part
 parts l w [] = []
 parts l w (e ∷ es) = partBy l w e ∷ parts l (feed w (note e)) es
+
+-- ---- a list of ECX values: where its lengths fit it is fed as its single calls are, and another not at all (12.24, 12.25, 13.73)
+pub record FedAsCalls : Type 0 where
+  pub fitting : (w : Book) (i x : ℕ) (cs : List ℕ) (len : ℕ) → length cs ≤ 256 → length cs ≤ len
+      → feed w (at i (allow cs len)) ≡ feedAll w (map (λ c. at i (call 4 c x)) cs)
+  pub tooMany : (w : Book) (i : ℕ) (cs : List ℕ) (len : ℕ) → 256 < length cs → feed w (at i (allow cs len)) ≡ w
+  pub tooShort : (w : Book) (i : ℕ) (cs : List ℕ) (len : ℕ) → len < length cs → feed w (at i (allow cs len)) ≡ w
+  -- and either admits nothing (12.26)
+  pub unadmitting : (l : ℕ) (w : Book) (i : ℕ) (cs : List ℕ) (q : Bytes) → partBy l w (at i (allow cs q)) ≡ noPart

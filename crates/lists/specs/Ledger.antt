@@ -13,7 +13,7 @@ use Rattle.model.specs.declared.Target.{Target}
 use Rattle.model.specs.declared.Target.the-variants.{Caller}
 use Rattle.model.specs.declared.Module.{Module}
 use Rattle.model.specs.State.{isActive, vcpuAt}
-use Rattle.model.specs.Codes.{Result, done, counted, coded, refused, accepted, presentedBy}
+use Rattle.model.specs.Codes.{Result, done, counted, refused, accepted, presentedBy}
 use Rattle.model.specs.Items.{sameItem, isItem, itemInFlight}
 use Rattle.model.specs.Doorbell.{Part, inPart}
 use Rattle.model.specs.Ipi.{icrItem, icrTarget, hits}
@@ -96,8 +96,6 @@ pub record Quiet : Type 0 where
       → postAct j x s w i e (done a) g ≡ postAct j x s w i e (done b) g
   pub counts : (j : ℕ) (x : Item) (s : Part) (w : Book) (i : ℕ) (e : Act Bytes) (a b c d : ℕ) (g : Ledger)
       → postAct j x s w i e (counted a b) g ≡ postAct j x s w i e (counted c d) g
-  pub codes : (j : ℕ) (x : Item) (s : Part) (w : Book) (i : ℕ) (e : Act Bytes) (a b : ℕ) (ks ls : List ℕ) (g : Ledger)
-      → postAct j x s w i e (coded a ks) g ≡ postAct j x s w i e (coded b ls) g
   -- nor is anything posted for a list of ECX values (12.26)
   pub lists : (j : ℕ) (x : Item) (s : Part) (w : Book) (i : ℕ) (cs : List ℕ) (q : Bytes) (a : Result) (g : Ledger)
       → postAct j x s w i (allow cs q) a g ≡ g

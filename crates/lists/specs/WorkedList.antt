@@ -174,6 +174,7 @@ checked =
 abbrev valueStory : List Event
 valueStory =
     at 0 (allow (0x041 ∷ 0x141 ∷ 0x11E ∷ 0x102 ∷ []) (9 ∷ 9 ∷ 9 ∷ 9 ∷ 9 ∷ []))
+    ∷ at 0 (allow [] byte64)
     ∷ at 0 (notice byte64)
     ∷ enters true false false
     ∷ at 0 (allow (0x11E ∷ []) (9 ∷ []))
@@ -194,13 +195,13 @@ valueStory =
 unfoldable pub valued : List Bool
 valued =
     sameResults (results (start 1 1) valueStory)
-    (coded 0 (0 ∷ 0 ∷ 0x80000005 ∷ 0 ∷ []) ∷ counted 1 0 ∷ shown41 ∷ coded 0 (0x80000005 ∷ []) ∷ done 0 ∷ shown41 ∷ coded 0 (0x80000005 ∷ 0 ∷ [])
+    (coded 0 (0 ∷ 0 ∷ 0x80000005 ∷ 0 ∷ []) ∷ coded 0 [] ∷ counted 1 0 ∷ shown41 ∷ coded 0 (0x80000005 ∷ []) ∷ done 0 ∷ shown41 ∷ coded 0 (0x80000005 ∷ 0 ∷ [])
     ∷ refused 4 ∷ counted 0 0 ∷ refused 6 ∷ counted 0 0 ∷ counted 1 0 ∷ refused 1 ∷ done 0 ∷ refused 0x80000001 ∷ done 65537 ∷ [])
     ∷ samePages (pages (start 1 1) valueStory) (set (set zeros 65 0x01) 104 0x02 ∷ [])
-    ∷ eqb (length (struck valueStory)) 12
+    ∷ eqb (length (struck valueStory)) 13
     ∷ tellsOf (start 1 1) valueStory 0 (item.Vector 0x41) (2 ∷ 1 ∷ 0 ∷ 1 ∷ [])
     ∷ tellsOf (start 1 1) valueStory 0 item.Nmi (0 ∷ 1 ∷ 0 ∷ 0 ∷ [])
-    ∷ sameNumbers (map items (parts 1 (bookOf (start 1 1)) valueStory)) (0 ∷ 1 ∷ 0 ∷ 0 ∷ 0 ∷ 0 ∷ 0 ∷ 0 ∷ 0 ∷ 0 ∷ 0 ∷ 1 ∷ 0 ∷ 0 ∷ 0 ∷ 0 ∷ [])
+    ∷ sameNumbers (map items (parts 1 (bookOf (start 1 1)) valueStory)) (0 ∷ 0 ∷ 1 ∷ 0 ∷ 0 ∷ 0 ∷ 0 ∷ 0 ∷ 0 ∷ 0 ∷ 0 ∷ 0 ∷ 1 ∷ 0 ∷ 0 ∷ 0 ∷ 0 ∷ [])
     ∷ []
 
 -- ---- a notice of 0x41 before and after it is allowed (14.45): how many items each event admits by the book

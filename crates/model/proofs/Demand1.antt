@@ -334,6 +334,9 @@ demand1 =
     record {
       refusals = refusals;
       unchanged = unchanged;
+      noticeKept = λ m i p c e. unchanged m (at i (notice p)) c e .1;
+      handBackKept = λ m i p iF sh c e. unchanged m (at i (handBack p iF sh)) c e .1;
+      listKept = λ m i cs q c e. unchanged m (at i (allow cs q)) c e .1;
       starts = starts;
       unstarted = unstarted;
       none = refl;

@@ -3,6 +3,7 @@
 use mathlib.Core.Path.{_≡_, refl, sym, ap, ap₂, _∙_, subst}
 use mathlib.Core.Bool.{Bool, true, false, cond, _&&_}
 use mathlib.Core.List.{List, [], _∷_, _++_}
+use mathlib.Core.Option.{none}
 use Prim.Native.Nat.{ℕ, zero, suc, _+_, _%_, _≤_, _<_}
 use native.Mathlib.Omega.{arith}
 use lib.Dec.{leb, ltb}
@@ -18,7 +19,7 @@ use Rattle.model.specs.declared.Request.the-variants as request
 use Rattle.model.specs.declared.Vcpu.{Vcpu}
 use Rattle.model.specs.declared.Module.{Module}
 use Rattle.model.specs.State.{isActive, size, vcpuAt, withVcpu}
-use Rattle.model.specs.Codes.{codeOf, Verdict, accept, refuse, need, verdictCode, Result, done, coded, refused, accepted, codeIn}
+use Rattle.model.specs.Codes.{codeOf, Verdict, accept, refuse, need, verdictCode, Result, done, coded, refused, refusalOf, codeIn}
 use Rattle.model.specs.Requests.{bad, nameable, permission, requestOf, forget, serve, callVerdict}
 use Rattle.model.specs.Events.{call, allow, at, Bytes, listFits, vcpuVerdict, verdict, callEffect, single, byVerdict, singleAfter, listAfter}
 use Rattle.model.specs.Events.{listCodes, effect, Out, concluded, step, next, run, final}
@@ -157,11 +158,11 @@ list-is-calls m i x cs q l l′ =
     (unserved (ltb i (size m)) (isActive (vcpuAt m i .phase)) (listFits cs q) d h (rw (le-leb (length cs) 256 l, le-leb (length cs) (length q) l′)))))
     (λ h. count-same m i _ ∙ sym (all-after i x cs m (known-of m i (allow cs q) h)))
 
-pub list-gives : (m : Module) (i x : ℕ) (cs : List ℕ) (q : Bytes) → accepted (step m (at i (allow cs q)) .result) ≡ true
+pub list-gives : (m : Module) (i x : ℕ) (cs : List ℕ) (q : Bytes) → refusalOf (step m (at i (allow cs q)) .result) ≡ none
     → step m (at i (allow cs q)) .result ≡ coded 0 (codesOf m (singles i x cs))
 unfolding concluded effect
 list-gives m i x cs q =
-    by-verdict m (at i (allow cs q)) (λ o. accepted (o .result) ≡ true → o .result ≡ coded 0 (codesOf m (singles i x cs)))
+    by-verdict m (at i (allow cs q)) (λ o. refusalOf (o .result) ≡ none → o .result ≡ coded 0 (codesOf m (singles i x cs)))
     (λ d h e. clash (cc))
     (λ h e. ap (coded 0) (sym (all-codes i x cs m (known-of m i (allow cs q) h))))
 
@@ -194,13 +195,13 @@ fits true true false d e = clash (cc)
 fits true false c d e = clash (cc)
 fits false b c d e = clash (cc)
 
-pub list-writes : (m : Module) (i x : ℕ) (cs : List ℕ) (q : Bytes) → accepted (step m (at i (allow cs q)) .result) ≡ true
+pub list-writes : (m : Module) (i x : ℕ) (cs : List ℕ) (q : Bytes) → refusalOf (step m (at i (allow cs q)) .result) ≡ none
     → (length (step m (at i (allow cs q)) .page) ≡ length q)
     × ((j : ℕ) → getD (step m (at i (allow cs q)) .page) j 0 ≡ cond (ltb j (length cs)) (getD (codesOf m (singles i x cs)) j 0) (getD q j 0))
 unfolding verdict vcpuVerdict concluded effect
 list-writes m i x cs q =
     by-verdict m (at i (allow cs q))
-    (λ o. accepted (o .result) ≡ true
+    (λ o. refusalOf (o .result) ≡ none
     → (length (o .page) ≡ length q)
     × ((j : ℕ) → getD (o .page) j 0 ≡ cond (ltb j (length cs)) (getD (codesOf m (singles i x cs)) j 0) (getD q j 0)))
     (λ d h e. clash (cc))

@@ -15,7 +15,7 @@ use Rattle.model.specs.declared.InFlight.the-variants.{Nothing}
 use Rattle.model.specs.declared.Vcpu.{Vcpu}
 use Rattle.model.specs.declared.Module.{Module}
 use Rattle.model.specs.State.{isActive, size, vcpuAt, start, withVcpu, withIrrLevel, withMachineCheck, withIcr, withFlight, withAllowed}
-use Rattle.model.specs.Codes.{Answer, presents, done, counted, answers, coded, accepted, codeIn, presentedIn}
+use Rattle.model.specs.Codes.{Answer, presents, done, counted, answers, coded, refusalOf, codeIn, presentedIn}
 use Rattle.model.specs.Items.{InRange, hasMark, isItem, itemCount, itemInFlight, flightOf, pending, unmarkAll}
 use Rattle.model.specs.Doorbell.{bitOf, announces, descriptor, mapBits, announcingBit, Part, isLevel, inPart, admitted, items}
 use Rattle.model.specs.Registers.{within}
@@ -227,10 +227,10 @@ pub record Demand2 : Type 0 where
   pub listIsCalls : (m : Module) (i x : ℕ) (cs : List ℕ) (q : Bytes) → length cs ≤ 256 → length cs ≤ length q
       → next m (at i (allow cs q)) ≡ final m (singles i x cs)
   -- an accepted one gives 0 and the codes of those calls (13.71)
-  pub listGives : (m : Module) (i x : ℕ) (cs : List ℕ) (q : Bytes) → accepted (step m (at i (allow cs q)) .result) ≡ true
+  pub listGives : (m : Module) (i x : ℕ) (cs : List ℕ) (q : Bytes) → refusalOf (step m (at i (allow cs q)) .result) ≡ none
       → step m (at i (allow cs q)) .result ≡ coded 0 (codesOf m (singles i x cs))
   -- its second list keeps its length, and has a code at the place of each value and at every other place what it had (13.72)
-  pub listWrites : (m : Module) (i x : ℕ) (cs : List ℕ) (q : Bytes) → accepted (step m (at i (allow cs q)) .result) ≡ true
+  pub listWrites : (m : Module) (i x : ℕ) (cs : List ℕ) (q : Bytes) → refusalOf (step m (at i (allow cs q)) .result) ≡ none
       → (length (step m (at i (allow cs q)) .page) ≡ length q)
       × ((j : ℕ) → getD (step m (at i (allow cs q)) .page) j 0 ≡ cond (ltb j (length cs)) (getD (codesOf m (singles i x cs)) j 0) (getD q j 0))
   -- of every module value: A and what is in flight apart, call 4 and a list of values change no record (13.74)

@@ -6,12 +6,13 @@ use mathlib.Core.List.{List, [], _∷_}
 use Prim.Native.Nat.{ℕ}
 use lib.ListN.{replicate}
 use Rattle.model.specs.declared.Phase.the-variants.{Leaving, Left}
+use Rattle.model.specs.declared.Refusal.{Refusal}
 use Rattle.model.specs.declared.Refusal.the-variants.{BadList}
 use Rattle.model.specs.declared.Outcome.the-variants as outcome
 use Rattle.model.specs.declared.Module.{Module}
 use Rattle.vector_set.specs.Sets.{empty, insert}
 use Rattle.model.specs.State.{vcpuAt, withAllowed, withPhase}
-use Rattle.model.specs.Codes.{listResult, accepted}
+use Rattle.model.specs.Codes.{coded, resultOf, listResult, accepted}
 use Rattle.model.specs.Events.{call, allow, nonDelivery, at, Event, next}
 use Rattle.model.specs.Demand2.{isCall, isRequest}
 use Rattle.model.specs.Cases.{sameNumbers, gives, givesCodes, isRefused, fresh2, having, record0, singleton, pending41, resultOn, every}
@@ -93,7 +94,7 @@ values =
     ∷ refusesSized 0x80000001 (having (withPhase Left record0)) 1 1
     -- 14.81: no call has the number 5
     ∷ isRefused 0x80000002 (resultOn fresh2 (at 0 (call 5 0x141 0)))
-    -- what the functions' answers say, and what the claims take a list for
+    -- what the functions' answers say (13.9), and what the claims take a list for (13.17, 13.61)
     ∷ givesCodes 7 (1 ∷ []) (listResult (outcome.Done 7) (1 ∷ []))
     ∷ isRefused 6 (listResult (outcome.Refused BadList) (1 ∷ []))
     ∷ (isRequest (allow [] []) && not (isCall (allow [] [])))
@@ -102,3 +103,6 @@ values =
 -- ---- all of them
 pub record WorkedValues : Type 0 where
   pub values : every values ≡ true
+  -- what the answer to a list says, for every number, code and refusal (13.9)
+  pub told : (x : ℕ) (ks : List ℕ) → listResult (outcome.Done x) ks ≡ coded x ks
+  pub refuses : (c : Refusal) (ks : List ℕ) → listResult (outcome.Refused c) ks ≡ resultOf (outcome.Refused c)

@@ -5,6 +5,7 @@
 --     keeps, answers           an answer's machine value is its type's: what it owns is kept, as a reference is; or let go, as where it is plain data
 --     plain-args               what arguments that are plain data own is had for nothing. A reference is put before them by `fjoin`
 --     asks                     `calls` of a callee whose answer is plain data: afterwards [the tokens; ..]
+--     before-rest              a call that ends an arm, as the call before what runs after the match
 --     big-lit                  a constant that MIR writes as `intBig`
 -- Assumes `Given`, and `FmC` of the table of calls.
 use mathlib.Core.Path.{sym, ap, subst}
@@ -15,10 +16,10 @@ use mir.Syntax.{Width, intBig, Name, Place, Opd as Operand, Body as Code, seq, c
 use mir.Val.{Val, vint, Fits}
 use base.Logic.{ent, sep, emp, id⊢, via, guardI}
 use base.Fml.{flft}
-use prog.Wp.{Heap, Env, Calls, Loops}
+use prog.Wp.{Heap, Env, Calls, Loops, Wp, afterSeq}
 use ghost.Atoms.{Atoms, sem}
-use types.Kit.{Given, Item, ‵, raw, _⊛_, some, later, Goal, Seq, Step, step, Post, runs, lands, _$_, _∵_, !, qed, move, drop, use0, use1, split, join, pick}
-use types.Kit.{frame, await, done}
+use types.Kit.{Given, Item, ‵, raw, _⊛_, some, later, Goal, Seq, Step, step, anyQ, Post, post, runs, lands, _$_, _∵_, !, qed, move, drop, use0, use1}
+use types.Kit.{split, join, pick, frame, await, done}
 use types.Run.{Opd, Opds}
 use sound.WpLaws.{FmC}
 use contract.Lifetimes.{Lfts, Shares, toks}
@@ -112,3 +113,10 @@ module _ (n : ℕ) (ps : List (Slot n)) (ks : Kepts ps) (res : Slot n) where
         → ((r : res .row κs .Denot) → Is (res .row κs) r (val r ∷ []) → Seq K W (Tokens n κs qs ++ Γ) (lands C Λ E d (val r) next P))
         → Seq K W (‵ (owns (typesAt ps κs) a vss) ∷ (Tokens n κs qs ++ Γ)) (runs C Λ E (seq (call f xs d) next) P)
     asks t fm known κs qs val tells a vss g met os k = calls t fm known κs qs a vss g met os (λ r w. answers t (res .row κs) val tells r w (k r))
+
+-- ---- a call that ends an arm: what runs once the arm has ended runs after it
+module _ {M : Type 1} {𝓤 : URA M} {H : Heap 𝓤} {A : Atoms 𝓤} {K : Type 0} {W : Given 𝓤 H A} {Γ : List (Item 𝓤)} {E : Env 𝓤 H} {C : Calls 𝓤 H} {Λ : Loops 𝓤 H}
+    {f : Name} {xs : List Operand} {d : Place} where
+  pub before-rest : K → (rest : Code) (P : Post 𝓤 H) → Step K W Γ (runs C Λ E (seq (call f xs d) rest) P) Γ
+      (runs C Λ E (call f xs d) (anyQ (afterSeq 𝓤 H (Wp 𝓤 H C Λ E rest (post 𝓤 H P)) (post 𝓤 H P))))
+  before-rest t rest P = step (λ s. record { prf = s .prf })

@@ -118,6 +118,8 @@ module _ {M : Type 1} (𝓤 : URA M) (H : Heap 𝓤) (A : Atoms 𝓤) (W : Given
         ) (g α γ₁) (met α γ₁) (os α γ₁ _) (λ x x-is. move t (0 ∷ 2 ∷ []) $ comes-back t tt T.the-row h (λ h′.
         move t (2 ∷ 3 ∷ []) $ slice-back u8 4096 t tt ys l (λ zs. move t (2 ∷ 3 ∷ []) $ k x x-is h′ zs))))
 
+module _ {M : Type 1} (𝓤 : URA M) (H : Heap 𝓤) (A : Atoms 𝓤) (W : Given 𝓤 H A) (m : Lent) (h : Module) where
+  module _ {K : Type 0} (𝓣 : Tables 𝓤 H) {Γ : List (Item 𝓤)} {E : Env 𝓤 H} {Q : Post 𝓤 H} {xs : List Operand} {d : Place} {next : Code} where
     -- the call of a function over the module and plain data
     pub modules : K → {f : Name} (ss : List (Slot 1)) (ks : Kepts ss) (res : Slot 1) (c : Clauses 𝓤 (Plainly ss ks res))
         → Triple 𝓤 (𝓣 .C f) (Closed (Plainly ss ks res) 𝓤 H A c)

@@ -21,27 +21,14 @@ use gate_mut_pages::notice_in;
 use model::Module;
 use trace::Event;
 
-// Plays one event on the module that is lent.
-fn play(
-    module: &mut Module,
-    page: &mut PageRoom,
-    values: &[u32],
-    codes: &mut ListRoom,
-    event: Event,
-) -> Answer {
+// Plays an event that has neither page nor lists. The rest changes nothing: what is no event, and what `play` keeps for itself.
+fn play_plain(module: &mut Module, event: Event) -> Answer {
     match event {
-        Event::Nothing => Answer::Nothing,
-        Event::Unreadable => Answer::Nothing,
         Event::Start { n, vmpl } => {
             let started = gate_start::start(n, vmpl);
             *module = started.after;
             Answer::Outcome(started.outcome)
         }
-        Event::Notice { vcpu, length } => Answer::Admission(notice_in(
-            module,
-            vcpu,
-            front(page, length),
-        )),
         Event::Call {
             vcpu,
             call,
@@ -55,6 +42,24 @@ fn play(
             blocked,
         } => Answer::Presentation(entry_in(module, vcpu, iflag, shadow, blocked)),
         Event::NonDelivery { vcpu } => Answer::Outcome(non_delivery_in(module, vcpu)),
+        _ => Answer::Nothing,
+    }
+}
+
+// Plays one event on the module that is lent.
+fn play(
+    module: &mut Module,
+    page: &mut PageRoom,
+    values: &[u32],
+    codes: &mut ListRoom,
+    event: Event,
+) -> Answer {
+    match event {
+        Event::Notice { vcpu, length } => Answer::Admission(notice_in(
+            module,
+            vcpu,
+            front(page, length),
+        )),
         Event::HandBack {
             vcpu,
             iflag,
@@ -72,7 +77,7 @@ fn play(
             first_values(values, count),
             blank_codes(codes, length, fill),
         )),
-        Event::State => Answer::Nothing,
+        _ => play_plain(module, event),
     }
 }
 

@@ -58,23 +58,10 @@ fn entered(e: Entered) -> Played {
     }
 }
 
-// Plays one event on the module.
-fn play(
-    module: Module,
-    page: &mut [u8],
-    values: &[u32],
-    codes: &mut [u32],
-    event: Event,
-) -> Played {
+// Plays an event that has neither page nor lists. The rest changes nothing: what is no event, and what `play` keeps for itself.
+fn play_plain(module: Module, event: Event) -> Played {
     match event {
-        Event::Nothing => silent(module),
-        Event::Unreadable => silent(module),
         Event::Start { n, vmpl } => stepped(gate_start::start(n, vmpl)),
-        Event::Notice { vcpu, length } => noticed(gate_pages::notice(
-            module,
-            vcpu,
-            front(page, length),
-        )),
         Event::Call {
             vcpu,
             call,
@@ -88,6 +75,24 @@ fn play(
             blocked,
         } => entered(gate_entries::entry(module, vcpu, iflag, shadow, blocked)),
         Event::NonDelivery { vcpu } => stepped(gate_entries::non_delivery(module, vcpu)),
+        _ => silent(module),
+    }
+}
+
+// Plays one event on the module.
+fn play(
+    module: Module,
+    page: &mut [u8],
+    values: &[u32],
+    codes: &mut [u32],
+    event: Event,
+) -> Played {
+    match event {
+        Event::Notice { vcpu, length } => noticed(gate_pages::notice(
+            module,
+            vcpu,
+            front(page, length),
+        )),
         Event::HandBack {
             vcpu,
             iflag,
@@ -105,7 +110,7 @@ fn play(
             first_values(values, count),
             blank_codes(codes, length, fill),
         )),
-        Event::State => silent(module),
+        _ => play_plain(module, event),
     }
 }
 

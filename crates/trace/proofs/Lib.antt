@@ -5,3 +5,4 @@ pub mod Cells
 pub mod Listing
 pub mod Events
 pub mod ReadBack
+pub mod ComputedLines

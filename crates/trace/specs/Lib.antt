@@ -3,3 +3,4 @@ pub mod Words
 pub mod Pages
 pub mod Lists
 pub mod Lines
+pub mod WorkedLines

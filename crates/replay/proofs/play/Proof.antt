@@ -1,11 +1,10 @@
--- `replay::play` is safe and ends: a walk of its MIR, an arm for each event. The module, and the page or the lists where the event has them, are lent to the
--- function of the event and come back.
+-- `replay::play` is safe and ends: a walk of its MIR. The module, and the page or the lists where the event has them, are lent to the function of the event,
+-- or to `play_plain`, and come back.
 -- Assumes nothing.
 mod Shape
-mod Plain
-mod Starting
 mod Paged
 mod Listing
+mod Others
 use Rattle.gate_mut.proofs.Walk.{refl, List, [], _∷_, ℕ, URA, Val, SProp, ent}
 use Rattle.gate_mut.proofs.Walk.{Heap, WpFn, Tables, Atoms, givenOf, tables, tablesOf, Given, ⋆, _$_, _∵_, !, qed}
 use Rattle.gate_mut.proofs.Walk.{init, enter, params1, pass1, pass0}
@@ -38,22 +37,6 @@ use Rattle.trace.specs.declared.Event.{Event}
 use Rattle.trace.specs.declared.Event.the-variants as event
 use Rattle.trace.proofs.Event as X
 use Rattle.trace.proofs.Event.Laws as X′
-use Rattle.gate_start.proofs.start as start
-use Rattle.gate_start.proofs.start.Symbol as start-def
-use Rattle.gate_start.proofs.start.Symbol.{name as #start}
-use Rattle.gate_start.proofs.start.Met as start-thm
-use Rattle.gate_mut_entries.proofs.entry_in as entry
-use Rattle.gate_mut_entries.proofs.entry_in.Symbol as entry-def
-use Rattle.gate_mut_entries.proofs.entry_in.Symbol.{name as #entry}
-use Rattle.gate_mut_entries.proofs.entry_in.Met as entry-thm
-use Rattle.gate_mut_entries.proofs.non_delivery_in as non-delivery
-use Rattle.gate_mut_entries.proofs.non_delivery_in.Symbol as non-delivery-def
-use Rattle.gate_mut_entries.proofs.non_delivery_in.Symbol.{name as #non-delivery}
-use Rattle.gate_mut_entries.proofs.non_delivery_in.Met as non-delivery-thm
-use Rattle.gate_mut_calls.proofs.call_in as calling
-use Rattle.gate_mut_calls.proofs.call_in.Symbol as calling-def
-use Rattle.gate_mut_calls.proofs.call_in.Symbol.{name as #calling}
-use Rattle.gate_mut_calls.proofs.call_in.Met as calling-thm
 use Rattle.gate_mut_pages.proofs.notice_in as notice
 use Rattle.gate_mut_pages.proofs.notice_in.Symbol as notice-def
 use Rattle.gate_mut_pages.proofs.notice_in.Symbol.{name as #notice}
@@ -88,34 +71,34 @@ use Rattle.replay.proofs.play as on
 use Rattle.replay.proofs.play.Statement as stated
 use Rattle.replay.proofs.play.Code as code
 use Rattle.replay.proofs.play.Proof.Shape as shape
-use Rattle.replay.proofs.play.Proof.Plain as plain-arms
-use Rattle.replay.proofs.play.Proof.Starting as starting-arms
 use Rattle.replay.proofs.play.Proof.Paged as paged-arms
 use Rattle.replay.proofs.play.Proof.Listing as listing-arms
+use Rattle.replay.proofs.play.Proof.Others as other-arms
+use Rattle.replay.proofs.play_plain as plainly
+use Rattle.replay.proofs.play_plain.Symbol as plainly-def
+use Rattle.replay.proofs.play_plain.Symbol.{name as #plainly}
+use Rattle.replay.proofs.play_plain.Met as plainly-thm
 
 module _ {M : Type 1} (𝓤 : URA M) (H : Heap 𝓤) (A : Atoms 𝓤) (W : Given 𝓤 H A) (memory : Memory → SProp 𝓤) (run : Routine → Fun 𝓤) (m p : Lent) (h : Module)
     (ys : List ℕ) (l : Lists) where
   -- ---- the walk
-  module _ (𝓣 : Tables 𝓤 H) (starts : Triple 𝓤 (𝓣 .C #start) (shape.Starts 𝓤 H A W memory run m p h ys l))
-      (enters : Triple 𝓤 (𝓣 .C #entry) (shape.Enters 𝓤 H A W memory run m p h ys l))
-      (non-delivers : Triple 𝓤 (𝓣 .C #non-delivery) (shape.NonDelivers 𝓤 H A W memory run m p h ys l))
-      (calls : Triple 𝓤 (𝓣 .C #calling) (shape.Calls 𝓤 H A W memory run m p h ys l))
+  module _ (𝓣 : Tables 𝓤 H) (plays-plainly : Triple 𝓤 (𝓣 .C #plainly) (shape.Plains 𝓤 H A W memory run m p h ys l))
       (notices : Triple 𝓤 (𝓣 .C #notice) (shape.Notices 𝓤 H A W memory run m p h ys l))
       (hands-back : Triple 𝓤 (𝓣 .C #hand-back) (shape.HandsBack 𝓤 H A W memory run m p h ys l))
       (fronts-known : Triple 𝓤 (𝓣 .C #front) (Fronts 𝓤 H A W memory run m p h ys))
       (first-known : Triple 𝓤 (𝓣 .C #first) (Firsts 𝓤 H A W memory run m h l)) (blank-known : Triple 𝓤 (𝓣 .C #blank) (Blanks 𝓤 H A W memory run m h l))
       (allow-known : Triple 𝓤 (𝓣 .C #allow) (Allows 𝓤 H A W memory run m h l)) where
     matched : (bs : Blocks (code.function .locals)) (e : Event) → shape.Matched 𝓤 H A W memory run m p h ys l 𝓣 bs e
-    matched bs event.Nothing = plain-arms.nothing-arm 𝓤 H A W memory run m p h ys l 𝓣 bs
-    matched bs event.Unreadable = plain-arms.unreadable-arm 𝓤 H A W memory run m p h ys l 𝓣 bs
-    matched bs (event.Start n v) = starting-arms.start-arm 𝓤 H A W memory run m p h ys l 𝓣 bs starts n v
+    matched bs event.Nothing = other-arms.nothing-arm 𝓤 H A W memory run m p h ys l 𝓣 bs plays-plainly
+    matched bs event.Unreadable = other-arms.unreadable-arm 𝓤 H A W memory run m p h ys l 𝓣 bs plays-plainly
+    matched bs (event.Start n v) = other-arms.start-arm 𝓤 H A W memory run m p h ys l 𝓣 bs plays-plainly n v
     matched bs (event.Notice i n) = paged-arms.notice-arm 𝓤 H A W memory run m p h ys l 𝓣 bs fronts-known notices i n
-    matched bs (event.Call i x y z) = plain-arms.call-arm 𝓤 H A W memory run m p h ys l 𝓣 bs calls i x y z
-    matched bs (event.Entry i x y z) = plain-arms.entry-arm 𝓤 H A W memory run m p h ys l 𝓣 bs enters i x y z
-    matched bs (event.NonDelivery i) = plain-arms.non-delivery-arm 𝓤 H A W memory run m p h ys l 𝓣 bs non-delivers i
+    matched bs (event.Call i x y z) = other-arms.call-arm 𝓤 H A W memory run m p h ys l 𝓣 bs plays-plainly i x y z
+    matched bs (event.Entry i x y z) = other-arms.entry-arm 𝓤 H A W memory run m p h ys l 𝓣 bs plays-plainly i x y z
+    matched bs (event.NonDelivery i) = other-arms.non-delivery-arm 𝓤 H A W memory run m p h ys l 𝓣 bs plays-plainly i
     matched bs (event.HandBack i x y n) = paged-arms.hand-back-arm 𝓤 H A W memory run m p h ys l 𝓣 bs fronts-known hands-back i x y n
     matched bs (event.Allow i n z x) = listing-arms.allow-arm 𝓤 H A W memory run m p h ys l 𝓣 bs first-known blank-known allow-known i n z x
-    matched bs event.State = plain-arms.state-arm 𝓤 H A W memory run m p h ys l 𝓣 bs
+    matched bs event.State = other-arms.state-arm 𝓤 H A W memory run m p h ys l 𝓣 bs plays-plainly
 
     abbrev given : Event → List Val
     given e = spot m ∷ spot p ∷ slice-spot (l .values) (length (l .ecxs)) ∷ spot (l .codes) ∷ machE e ∷ []
@@ -140,10 +123,7 @@ module _ {M : Type 1} (𝓤 : URA M) (H : Heap 𝓤) (A : Atoms 𝓤) (W : Given
         pass1 ! (init ! 13 refl (typedE 𝓤 H A W e is-e)) $ pass0 ! $ first ! $ matched bs e is-e))
 
 play-spec-of : {M : Type 1} (𝓤 : URA M) (H : Heap 𝓤) (A : Atoms 𝓤) (W : Given 𝓤 H A) (memory : Memory → SProp 𝓤) (run : Routine → Fun 𝓤) (𝓣 : Tables 𝓤 H)
-    → Triple 𝓤 (𝓣 .C #start) (tripleOf 𝓤 H A start.signature (start.spec 𝓤 H A memory run))
-    → Triple 𝓤 (𝓣 .C #entry) (tripleOf 𝓤 H A entry.signature (entry.spec 𝓤 H A memory run))
-    → Triple 𝓤 (𝓣 .C #non-delivery) (tripleOf 𝓤 H A non-delivery.signature (non-delivery.spec 𝓤 H A memory run))
-    → Triple 𝓤 (𝓣 .C #calling) (tripleOf 𝓤 H A calling.signature (calling.spec 𝓤 H A memory run))
+    → Triple 𝓤 (𝓣 .C #plainly) (tripleOf 𝓤 H A plainly.signature (plainly.spec 𝓤 H A memory run))
     → Triple 𝓤 (𝓣 .C #notice) (tripleOf 𝓤 H A notice.signature (notice.spec 𝓤 H A memory run))
     → Triple 𝓤 (𝓣 .C #hand-back) (tripleOf 𝓤 H A hand-back.signature (hand-back.spec 𝓤 H A memory run))
     → Triple 𝓤 (𝓣 .C #front) (tripleOf 𝓤 H A front.signature (front.spec 𝓤 H A memory run))
@@ -151,7 +131,7 @@ play-spec-of : {M : Type 1} (𝓤 : URA M) (H : Heap 𝓤) (A : Atoms 𝓤) (W :
     → Triple 𝓤 (𝓣 .C #blank) (tripleOf 𝓤 H A blank.signature (blank.spec 𝓤 H A memory run))
     → Triple 𝓤 (𝓣 .C #allow) (tripleOf 𝓤 H A allow.signature (allow.spec 𝓤 H A memory run))
     → Meets 𝓤 H A on.signature (WpFn 𝓤 H (𝓣 .C) (𝓣 .Λ) code.function) (on.spec 𝓤 H A memory run)
-play-spec-of 𝓤 H A W memory run 𝓣 starts enters non-delivers calls notices hands-back fronts-known first-known blank-known allow-known =
+play-spec-of 𝓤 H A W memory run 𝓣 plays-plainly notices hands-back fronts-known first-known blank-known allow-known =
     walk-meets 𝓤 H A on.ended shape.stayed W (
       goes-ref 𝓤 H A W 4 0 tt (plain (λ _. T.the-row)),
       (
@@ -186,7 +166,7 @@ play-spec-of 𝓤 H A W memory run 𝓣 starts enters non-delivers calls notices
       codes = lent (κs .1 .1 .1 .0) (qs .1 .1 .1 .0) (a .1 .1 .1 .0);
       told = a .1 .1 .1 .0 .now;
     })
-    𝓣 starts enters non-delivers calls notices hands-back fronts-known first-known blank-known allow-known (a .1 .1 .1 .1 .0) (are .1 .1 .1 .1 .0))))
+    𝓣 plays-plainly notices hands-back fronts-known first-known blank-known allow-known (a .1 .1 .1 .1 .0) (are .1 .1 .1 .1 .0))))
 
 pub play-spec : {M : Type 1} → stated.statement M
 unfolding code.routine tablesOf
@@ -194,14 +174,8 @@ play-spec 𝓤 H 𝓜 𝓖 𝓡 =
     entered 𝓤 H (tripleOf 𝓤 H (𝓖 .A) on.signature (on.spec 𝓤 H (𝓖 .A) (𝓜 .mem) (𝓡 .run)))
     (tables 𝓤 H 𝓜 𝓡 code.env .C) (tables 𝓤 H 𝓜 𝓡 code.env .Λ) #on code.function (code.unfolded 𝓤 H 𝓜 𝓡)
     (play-spec-of 𝓤 H (𝓖 .A) (givenOf 𝓤 H 𝓜 𝓖) (𝓜 .mem) (𝓡 .run) (tablesOf 𝓤 H 𝓜 (tables 𝓤 H 𝓜 𝓡 code.env))
-    (cited 𝓤 H (tripleOf 𝓤 H (𝓖 .A) start.signature (start.spec 𝓤 H (𝓖 .A) (𝓜 .mem) (𝓡 .run))) 𝓜 𝓡 code.env #start start-def.routine
-    code.calls-gate-start·start (start-thm.met 𝓤 H 𝓜 𝓖 𝓡))
-    (cited 𝓤 H (tripleOf 𝓤 H (𝓖 .A) entry.signature (entry.spec 𝓤 H (𝓖 .A) (𝓜 .mem) (𝓡 .run))) 𝓜 𝓡 code.env #entry entry-def.routine
-    code.calls-gate-mut-entries·entry-in (entry-thm.met 𝓤 H 𝓜 𝓖 𝓡))
-    (cited 𝓤 H (tripleOf 𝓤 H (𝓖 .A) non-delivery.signature (non-delivery.spec 𝓤 H (𝓖 .A) (𝓜 .mem) (𝓡 .run))) 𝓜 𝓡 code.env #non-delivery
-    non-delivery-def.routine code.calls-gate-mut-entries·non-delivery-in (non-delivery-thm.met 𝓤 H 𝓜 𝓖 𝓡))
-    (cited 𝓤 H (tripleOf 𝓤 H (𝓖 .A) calling.signature (calling.spec 𝓤 H (𝓖 .A) (𝓜 .mem) (𝓡 .run))) 𝓜 𝓡 code.env #calling calling-def.routine
-    code.calls-gate-mut-calls·call-in (calling-thm.met 𝓤 H 𝓜 𝓖 𝓡))
+    (cited 𝓤 H (tripleOf 𝓤 H (𝓖 .A) plainly.signature (plainly.spec 𝓤 H (𝓖 .A) (𝓜 .mem) (𝓡 .run))) 𝓜 𝓡 code.env #plainly plainly-def.routine
+    code.calls-replay·play-plain (plainly-thm.met 𝓤 H 𝓜 𝓖 𝓡))
     (cited 𝓤 H (tripleOf 𝓤 H (𝓖 .A) notice.signature (notice.spec 𝓤 H (𝓖 .A) (𝓜 .mem) (𝓡 .run))) 𝓜 𝓡 code.env #notice notice-def.routine
     code.calls-gate-mut-pages·notice-in (notice-thm.met 𝓤 H 𝓜 𝓖 𝓡))
     (cited 𝓤 H (tripleOf 𝓤 H (𝓖 .A) hand-back.signature (hand-back.spec 𝓤 H (𝓖 .A) (𝓜 .mem) (𝓡 .run))) 𝓜 𝓡 code.env #hand-back hand-back-def.routine

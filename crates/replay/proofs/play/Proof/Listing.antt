@@ -56,35 +56,35 @@ module _ {M : Type 1} (𝓤 : URA M) (H : Heap 𝓤) (A : Atoms 𝓤) (W : Given
       let n-fits = EL.owed X.the-type X′.the-laws (event.Allow i n z x) _ is-e .1 .0 .1 in
       let z-fits = EL.owed X.the-type X′.the-laws (event.Allow i n z x) _ is-e .1 .1 .0 .1 in
       let x-fits = EL.owed X.the-type X′.the-laws (event.Allow i n z x) _ is-e .1 .1 .1 .0 .1 in
-      switches-on ! (load ! (from ! (vrt ! refl (fld ! refl (stop !)))) (look-tag ! 13 (whole !))) $ exec ! (𝓣 .C) (𝓣 .Λ) En (nth-arm 8 s-1) (Then e) $
-      sets ! (of-opd ! (load ! (from ! (vrt ! refl (fld ! {d = 4} refl (stop !)))) (look-in ! 13 (in-variant ! 8 0 {d = 4} refl refl (whole !))))) 32 refl
+      switches-on ! (load ! (from ! (vrt ! refl (fld ! refl (stop !)))) (look-tag ! 13 (whole !))) $ exec ! (𝓣 .C) (𝓣 .Λ) En (nth-arm 2 s-1) (Then e) $
+      sets ! (of-opd ! (load ! (from ! (vrt ! refl (fld ! {d = 4} refl (stop !)))) (look-in ! 13 (in-variant ! 8 0 {d = 4} refl refl (whole !))))) 20 refl
       (tt, record { fits = i-fits }) $
-      sets ! (of-opd ! (load ! (from ! (vrt ! refl (fld ! {d = 8} refl (stop !)))) (look-in ! 13 (in-variant ! 8 1 {d = 8} refl refl (whole !))))) 33 refl
+      sets ! (of-opd ! (load ! (from ! (vrt ! refl (fld ! {d = 8} refl (stop !)))) (look-in ! 13 (in-variant ! 8 1 {d = 8} refl refl (whole !))))) 21 refl
       (tt, record { fits = n-fits }) $
-      sets ! (of-opd ! (load ! (from ! (vrt ! refl (fld ! {d = 16} refl (stop !)))) (look-in ! 13 (in-variant ! 8 2 {d = 16} refl refl (whole !))))) 34 refl
+      sets ! (of-opd ! (load ! (from ! (vrt ! refl (fld ! {d = 16} refl (stop !)))) (look-in ! 13 (in-variant ! 8 2 {d = 16} refl refl (whole !))))) 22 refl
       (tt, record { fits = z-fits }) $
-      sets ! (of-opd ! (load ! (from ! (vrt ! refl (fld ! {d = 24} refl (stop !)))) (look-in ! 13 (in-variant ! 8 3 {d = 24} refl refl (whole !))))) 35 refl
+      sets ! (of-opd ! (load ! (from ! (vrt ! refl (fld ! {d = 24} refl (stop !)))) (look-in ! 13 (in-variant ! 8 3 {d = 24} refl refl (whole !))))) 23 refl
       (tt, record { fits = x-fits }) $
-      sets ! (addr ! (from ! (hop ! (look ! 9 refl) (stop !)))) 54 refl (tt, tt) $
+      sets ! (addr ! (from ! (hop ! (look ! 9 refl) (stop !)))) 36 refl (tt, tt) $
       move ! (4 ∷ 5 ∷ []) $
-      firsts 𝓤 H A W memory run m h l 𝓣 ! first-known n n-fits (λ y. and-then ! (var ! 11 refl) (and-then ! (var ! 33 refl) (no-more !))) (λ r r-room.
+      firsts 𝓤 H A W memory run m h l 𝓣 ! first-known n n-fits (λ y. and-then ! (var ! 11 refl) (and-then ! (var ! 21 refl) (no-more !))) (λ r r-room.
       -- [the first values; their token; the first list; the module; its token; the page; its token; the second list; its token; local 0; ..]
-      land ! (from ! (stop !)) (init ! 56 refl (tt, (tt, (record { fits = r-room .0 }, tt)))) $
-      sets ! (addr ! (from ! (hop ! (look ! 13 refl) (stop !)))) 58 refl (tt, tt) $
-      sets ! (agg ! (and-then ! (var ! 58 refl) (and-then ! (big-lit ! (record { fits = lit< tt })) (no-more !)))) 59 refl
+      land ! (from ! (stop !)) (init ! 38 refl (tt, (tt, (record { fits = r-room .0 }, tt)))) $
+      sets ! (addr ! (from ! (hop ! (look ! 13 refl) (stop !)))) 40 refl (tt, tt) $
+      sets ! (agg ! (and-then ! (var ! 40 refl) (and-then ! (big-lit ! (record { fits = lit< tt })) (no-more !)))) 41 refl
       (tt, (tt, (record { fits = lit< tt }, tt))) $
       move ! (7 ∷ 8 ∷ []) $
       blanks 𝓤 H A W memory run m h l 𝓣 ! blank-known z z-fits x x-fits
-      (λ β γ₂ y. and-then ! (var ! 59 refl) (and-then ! (var ! 35 refl) (and-then ! (var ! 36 refl) (no-more !)))) (λ β γ₂ long s s-room.
+      (λ β γ₂ y. and-then ! (var ! 41 refl) (and-then ! (var ! 23 refl) (and-then ! (var ! 24 refl) (no-more !)))) (λ β γ₂ long s s-room.
       -- [the second list; its token; its lender; the first values; their token; the first list; the module; its token; the page; its token; local 0; ..]
-      land ! (from ! (stop !)) (init ! 58 refl (tt, (tt, (record { fits = s-room .0 }, tt)))) $
+      land ! (from ! (stop !)) (init ! 40 refl (tt, (tt, (record { fits = s-room .0 }, tt)))) $
       move ! (6 ∷ 7 ∷ 3 ∷ 4 ∷ 0 ∷ 1 ∷ 2 ∷ []) $
       allows 𝓤 H A W memory run m h l 𝓣 ! known i i-fits r s β γ₂ long
-      (λ α γ₁ y. and-then ! (var ! 52 refl) (and-then ! (var ! 30 refl) (and-then ! (var ! 53 refl) (and-then ! (var ! 54 refl) (no-more !)))))
+      (λ α γ₁ y. and-then ! (var ! 34 refl) (and-then ! (var ! 18 refl) (and-then ! (var ! 35 refl) (and-then ! (var ! 36 refl) (no-more !)))))
       (λ a a-is h′ ks. move ! (0 ∷ 1 ∷ 6 ∷ 7 ∷ 5 ∷ []) $
       let is = EL.owes N.the-type N′.the-laws (answer.Outcome a) (a-is, tt) in
-      land ! (from ! (stop !)) (init ! 53 refl (typedO 𝓤 H A W a a-is)) $
-      assigns-last ! (agg ! (and-then ! (lit ! tt) (and-then ! (var ! 53 refl) (no-more !)))) (from ! (stop !))
-      (init ! 36 refl (typedN 𝓤 H A W (answer.Outcome a) is)) $ exec ! (𝓣 .C) (𝓣 .Λ) En t-2 (atRet En (Post′ e)) $
-      sets ! (of-opd ! (var ! 36 refl)) 8 refl (typedN 𝓤 H A W (answer.Outcome a) is) $
+      land ! (from ! (stop !)) (init ! 35 refl (typedO 𝓤 H A W a a-is)) $
+      assigns-last ! (agg ! (and-then ! (lit ! tt) (and-then ! (var ! 35 refl) (no-more !)))) (from ! (stop !))
+      (init ! 24 refl (typedN 𝓤 H A W (answer.Outcome a) is)) $ exec ! (𝓣 .C) (𝓣 .Λ) En t-2 (atRet En (Post′ e)) $
+      sets ! (of-opd ! (var ! 24 refl)) 8 refl (typedN 𝓤 H A W (answer.Outcome a) is) $
       shape.leaves 𝓤 H A W memory run m p h ys l 𝓣 bs e (answer.Outcome a) is h′ ys ks refl)))

@@ -62,27 +62,27 @@ module _ {M : Type 1} (𝓤 : URA M) (H : Heap 𝓤) (A : Atoms 𝓤) (W : Given
       let e : Event = event.Notice i n in
       let i-fits = EL.owed X.the-type X′.the-laws (event.Notice i n) _ is-e .0 .1 in
       let n-fits = EL.owed X.the-type X′.the-laws (event.Notice i n) _ is-e .1 .0 .1 in
-      switches-on ! (load ! (from ! (vrt ! refl (fld ! refl (stop !)))) (look-tag ! 13 (whole !))) $ exec ! (𝓣 .C) (𝓣 .Λ) En (nth-arm 3 s-1) (Then e) $
-      sets ! (of-opd ! (load ! (from ! (vrt ! refl (fld ! {d = 4} refl (stop !)))) (look-in ! 13 (in-variant ! 3 0 {d = 4} refl refl (whole !))))) 17 refl
+      switches-on ! (load ! (from ! (vrt ! refl (fld ! refl (stop !)))) (look-tag ! 13 (whole !))) $ exec ! (𝓣 .C) (𝓣 .Λ) En (nth-arm 0 s-1) (Then e) $
+      sets ! (of-opd ! (load ! (from ! (vrt ! refl (fld ! {d = 4} refl (stop !)))) (look-in ! 13 (in-variant ! 3 0 {d = 4} refl refl (whole !))))) 14 refl
       (tt, record { fits = i-fits }) $
-      sets ! (of-opd ! (load ! (from ! (vrt ! refl (fld ! {d = 8} refl (stop !)))) (look-in ! 13 (in-variant ! 3 1 {d = 8} refl refl (whole !))))) 18 refl
+      sets ! (of-opd ! (load ! (from ! (vrt ! refl (fld ! {d = 8} refl (stop !)))) (look-in ! 13 (in-variant ! 3 1 {d = 8} refl refl (whole !))))) 15 refl
       (tt, record { fits = n-fits }) $
-      sets ! (addr ! (from ! (hop ! (look ! 9 refl) (stop !)))) 38 refl (tt, tt) $
-      sets ! (addr ! (from ! (hop ! (look ! 10 refl) (stop !)))) 40 refl (tt, tt) $
-      sets ! (agg ! (and-then ! (var ! 40 refl) (and-then ! (big-lit ! (record { fits = lit< tt })) (no-more !)))) 41 refl
+      sets ! (addr ! (from ! (hop ! (look ! 9 refl) (stop !)))) 26 refl (tt, tt) $
+      sets ! (addr ! (from ! (hop ! (look ! 10 refl) (stop !)))) 28 refl (tt, tt) $
+      sets ! (agg ! (and-then ! (var ! 28 refl) (and-then ! (big-lit ! (record { fits = lit< tt })) (no-more !)))) 29 refl
       (tt, (tt, (record { fits = lit< tt }, tt))) $
-      fronts 𝓤 H A W memory run m p h ys 𝓣 ! front-known n n-fits (λ β γ₂ x′. and-then ! (var ! 41 refl) (and-then ! (var ! 18 refl) (no-more !)))
+      fronts 𝓤 H A W memory run m p h ys 𝓣 ! front-known n n-fits (λ β γ₂ x′. and-then ! (var ! 29 refl) (and-then ! (var ! 15 refl) (no-more !)))
       (λ β γ₂ long r room.
-      land ! (from ! (stop !)) (init ! 40 refl (tt, (tt, (record { fits = room .0 }, tt)))) $
+      land ! (from ! (stop !)) (init ! 28 refl (tt, (tt, (record { fits = room .0 }, tt)))) $
       pages 𝓤 H A W memory run m p h ys 𝓣 ! [] tt D.the-row machA (EL.tells D.the-type D′.the-laws)
       (notice.clauses 𝓤 H A memory run) known i i-fits β γ₂ long r (λ α. tt) (λ α. tt) (λ α. tt) (λ α. tt)
       (λ α γ₁. tt) (λ α γ₁. id⊢ 𝓤 (emp 𝓤))
-      (λ α γ₁ x. and-then ! (var ! 37 refl) (and-then ! (var ! 16 refl) (and-then ! (var ! 38 refl) (no-more !)))) (λ a a-is h′ zs.
+      (λ α γ₁ x. and-then ! (var ! 25 refl) (and-then ! (var ! 13 refl) (and-then ! (var ! 26 refl) (no-more !)))) (λ a a-is h′ zs.
       let is = EL.owes N.the-type N′.the-laws (answer.Admission a) (a-is, tt) in
-      land ! (from ! (stop !)) (init ! 37 refl (typedA 𝓤 H A W a a-is)) $
-      assigns-last ! (agg ! (and-then ! (lit ! tt) (and-then ! (var ! 37 refl) (no-more !)))) (from ! (stop !))
-      (init ! 36 refl (typedN 𝓤 H A W (answer.Admission a) is)) $ exec ! (𝓣 .C) (𝓣 .Λ) En t-2 (atRet En (Post′ e)) $
-      sets ! (of-opd ! (var ! 36 refl)) 8 refl (typedN 𝓤 H A W (answer.Admission a) is) $
+      land ! (from ! (stop !)) (init ! 25 refl (typedA 𝓤 H A W a a-is)) $
+      assigns-last ! (agg ! (and-then ! (lit ! tt) (and-then ! (var ! 25 refl) (no-more !)))) (from ! (stop !))
+      (init ! 24 refl (typedN 𝓤 H A W (answer.Admission a) is)) $ exec ! (𝓣 .C) (𝓣 .Λ) En t-2 (atRet En (Post′ e)) $
+      sets ! (of-opd ! (var ! 24 refl)) 8 refl (typedN 𝓤 H A W (answer.Admission a) is) $
       shape.leaves 𝓤 H A W memory run m p h ys l 𝓣 bs e (answer.Admission a) is h′ zs (l .told) refl))
 
   pub hand-back-arm : Triple 𝓤 (𝓣 .C #front) (Fronts 𝓤 H A W memory run m p h ys)
@@ -92,30 +92,30 @@ module _ {M : Type 1} (𝓤 : URA M) (H : Heap 𝓤) (A : Atoms 𝓤) (W : Given
       let e : Event = event.HandBack i x y n in
       let i-fits = EL.owed X.the-type X′.the-laws (event.HandBack i x y n) _ is-e .0 .1 in
       let n-fits = EL.owed X.the-type X′.the-laws (event.HandBack i x y n) _ is-e .1 .1 .1 .0 .1 in
-      switches-on ! (load ! (from ! (vrt ! refl (fld ! refl (stop !)))) (look-tag ! 13 (whole !))) $ exec ! (𝓣 .C) (𝓣 .Λ) En (nth-arm 7 s-1) (Then e) $
-      sets ! (of-opd ! (load ! (from ! (vrt ! refl (fld ! {d = 4} refl (stop !)))) (look-in ! 13 (in-variant ! 7 0 {d = 4} refl refl (whole !))))) 28 refl
+      switches-on ! (load ! (from ! (vrt ! refl (fld ! refl (stop !)))) (look-tag ! 13 (whole !))) $ exec ! (𝓣 .C) (𝓣 .Λ) En (nth-arm 1 s-1) (Then e) $
+      sets ! (of-opd ! (load ! (from ! (vrt ! refl (fld ! {d = 4} refl (stop !)))) (look-in ! 13 (in-variant ! 7 0 {d = 4} refl refl (whole !))))) 16 refl
       (tt, record { fits = i-fits }) $
-      sets ! (of-opd ! (load ! (from ! (vrt ! refl (fld ! {d = 8} refl (stop !)))) (look-in ! 13 (in-variant ! 7 1 {d = 8} refl refl (whole !))))) 29 refl
+      sets ! (of-opd ! (load ! (from ! (vrt ! refl (fld ! {d = 8} refl (stop !)))) (look-in ! 13 (in-variant ! 7 1 {d = 8} refl refl (whole !))))) 17 refl
       (tt, tt) $
-      sets ! (of-opd ! (load ! (from ! (vrt ! refl (fld ! {d = 9} refl (stop !)))) (look-in ! 13 (in-variant ! 7 2 {d = 9} refl refl (whole !))))) 30 refl
+      sets ! (of-opd ! (load ! (from ! (vrt ! refl (fld ! {d = 9} refl (stop !)))) (look-in ! 13 (in-variant ! 7 2 {d = 9} refl refl (whole !))))) 18 refl
       (tt, tt) $
-      sets ! (of-opd ! (load ! (from ! (vrt ! refl (fld ! {d = 16} refl (stop !)))) (look-in ! 13 (in-variant ! 7 3 {d = 16} refl refl (whole !))))) 31 refl
+      sets ! (of-opd ! (load ! (from ! (vrt ! refl (fld ! {d = 16} refl (stop !)))) (look-in ! 13 (in-variant ! 7 3 {d = 16} refl refl (whole !))))) 19 refl
       (tt, record { fits = n-fits }) $
-      sets ! (addr ! (from ! (hop ! (look ! 9 refl) (stop !)))) 49 refl (tt, tt) $
-      sets ! (addr ! (from ! (hop ! (look ! 10 refl) (stop !)))) 51 refl (tt, tt) $
-      sets ! (agg ! (and-then ! (var ! 51 refl) (and-then ! (big-lit ! (record { fits = lit< tt })) (no-more !)))) 52 refl
+      sets ! (addr ! (from ! (hop ! (look ! 9 refl) (stop !)))) 31 refl (tt, tt) $
+      sets ! (addr ! (from ! (hop ! (look ! 10 refl) (stop !)))) 33 refl (tt, tt) $
+      sets ! (agg ! (and-then ! (var ! 33 refl) (and-then ! (big-lit ! (record { fits = lit< tt })) (no-more !)))) 34 refl
       (tt, (tt, (record { fits = lit< tt }, tt))) $
-      fronts 𝓤 H A W memory run m p h ys 𝓣 ! front-known n n-fits (λ β γ₂ x′. and-then ! (var ! 52 refl) (and-then ! (var ! 31 refl) (no-more !)))
+      fronts 𝓤 H A W memory run m p h ys 𝓣 ! front-known n n-fits (λ β γ₂ x′. and-then ! (var ! 34 refl) (and-then ! (var ! 19 refl) (no-more !)))
       (λ β γ₂ long r room.
-      land ! (from ! (stop !)) (init ! 51 refl (tt, (tt, (record { fits = room .0 }, tt)))) $
+      land ! (from ! (stop !)) (init ! 33 refl (tt, (tt, (record { fits = room .0 }, tt)))) $
       pages 𝓤 H A W memory run m p h ys 𝓣 ! (plain (λ _. bool) ∷ plain (λ _. bool) ∷ []) (yes, (yes, tt)) O.the-row machO (EL.tells O.the-type O′.the-laws)
       (hand-back.clauses 𝓤 H A memory run) known i i-fits β γ₂ long r (λ α. (bool-makes 𝓤 H A W, (bool-makes 𝓤 H A W, tt)))
       (λ α. (x, (y, tt))) (λ α. (vbool x ∷ [], (vbool y ∷ [], tt))) (λ α. (refl, (refl, tt))) (λ α γ₁. tt) (λ α γ₁. id⊢ 𝓤 (emp 𝓤))
-      (λ α γ₁ x′. and-then ! (var ! 48 refl) (and-then ! (var ! 27 refl) (and-then ! (var ! 49 refl)
-      (and-then ! (var ! 28 refl) (and-then ! (var ! 29 refl) (no-more !)))))) (λ a a-is h′ zs.
+      (λ α γ₁ x′. and-then ! (var ! 30 refl) (and-then ! (var ! 15 refl) (and-then ! (var ! 31 refl)
+      (and-then ! (var ! 16 refl) (and-then ! (var ! 17 refl) (no-more !)))))) (λ a a-is h′ zs.
       let is = EL.owes N.the-type N′.the-laws (answer.Outcome a) (a-is, tt) in
-      land ! (from ! (stop !)) (init ! 48 refl (typedO 𝓤 H A W a a-is)) $
-      assigns-last ! (agg ! (and-then ! (lit ! tt) (and-then ! (var ! 48 refl) (no-more !)))) (from ! (stop !))
-      (init ! 36 refl (typedN 𝓤 H A W (answer.Outcome a) is)) $ exec ! (𝓣 .C) (𝓣 .Λ) En t-2 (atRet En (Post′ e)) $
-      sets ! (of-opd ! (var ! 36 refl)) 8 refl (typedN 𝓤 H A W (answer.Outcome a) is) $
+      land ! (from ! (stop !)) (init ! 30 refl (typedO 𝓤 H A W a a-is)) $
+      assigns-last ! (agg ! (and-then ! (lit ! tt) (and-then ! (var ! 30 refl) (no-more !)))) (from ! (stop !))
+      (init ! 24 refl (typedN 𝓤 H A W (answer.Outcome a) is)) $ exec ! (𝓣 .C) (𝓣 .Λ) En t-2 (atRet En (Post′ e)) $
+      sets ! (of-opd ! (var ! 24 refl)) 8 refl (typedN 𝓤 H A W (answer.Outcome a) is) $
       shape.leaves 𝓤 H A W memory run m p h ys l 𝓣 bs e (answer.Outcome a) is h′ zs (l .told) refl))

@@ -30,10 +30,6 @@ use Rattle.trace.proofs.Event as X
 use Rattle.console.specs.declared.Answer.{Answer}
 use Rattle.console.proofs.Answer as N
 use Rattle.console.proofs.Answer.Laws as N′
-use Rattle.gate_start.proofs.start as start
-use Rattle.gate_mut_entries.proofs.entry_in as entry
-use Rattle.gate_mut_entries.proofs.non_delivery_in as non-delivery
-use Rattle.gate_mut_calls.proofs.call_in as calling
 use Rattle.gate_mut_pages.proofs.notice_in as notice
 use Rattle.gate_mut_pages.proofs.hand_back_in as hand-back
 use Rattle.gate_mut.proofs.Frame.{Blocks, env, cells, deaths, contents, frees-all}
@@ -44,6 +40,7 @@ use Rattle.replay.proofs.Values.{machE, machN}
 use Rattle.replay.proofs.play as on
 use Rattle.replay.proofs.play.Code as code
 use Rattle.replay.proofs.play.Code.Mir.{s-1, t-2}
+use Rattle.replay.proofs.play_plain as plainly
 
 abbrev pub stayed : Stays (on.signature .params) (on.ended .kept)
 stayed = (
@@ -111,17 +108,8 @@ module _ {M : Type 1} (𝓤 : URA M) (H : Heap 𝓤) (A : Atoms 𝓤) (W : Given
       nothing ! $ move ! (6 ∷ 0 ∷ []) $ join ! $ move ! (5 ∷ 0 ∷ []) $ join ! $ move ! (3 ∷ 0 ∷ []) $ join ! $ move ! (2 ∷ 0 ∷ []) $ join ! $ join ! $
       frame ! $ nothing ! $ keep ! (0 ∷ []) $ done !
 
-  abbrev pub Starts : Contract 𝓤
-  Starts = tripleOf 𝓤 H A start.signature (start.spec 𝓤 H A memory run)
-
-  abbrev pub Enters : Contract 𝓤
-  Enters = tripleOf 𝓤 H A entry.signature (entry.spec 𝓤 H A memory run)
-
-  abbrev pub NonDelivers : Contract 𝓤
-  NonDelivers = tripleOf 𝓤 H A non-delivery.signature (non-delivery.spec 𝓤 H A memory run)
-
-  abbrev pub Calls : Contract 𝓤
-  Calls = tripleOf 𝓤 H A calling.signature (calling.spec 𝓤 H A memory run)
+  abbrev pub Plains : Contract 𝓤
+  Plains = tripleOf 𝓤 H A plainly.signature (plainly.spec 𝓤 H A memory run)
 
   abbrev pub Notices : Contract 𝓤
   Notices = tripleOf 𝓤 H A notice.signature (notice.spec 𝓤 H A memory run)
@@ -147,7 +135,7 @@ module _ {M : Type 1} (𝓤 : URA M) (H : Heap 𝓤) (A : Atoms 𝓤) (W : Given
     abbrev pub Matched : Event → Type 1
     Matched e = Is X.the-row e (machE e ∷ []) → Sq W (At e) (runs (𝓣 .C) (𝓣 .Λ) En s-1 (Then e))
 
-    -- the end of an arm: its value, in local 28, is copied into the result, which is returned
+    -- the end of an arm: its value, in local 16, is copied into the result, which is returned
     pub leaves : (e : Event) (r : Answer) → Is N.the-row r (machN r ∷ []) → (h′ : Module) (zs ks : List ℕ) {Γ : List (Item 𝓤)}
         → ‵ (fat fullShare (spotOf 𝓤 H En 0 .0) (spotOf 𝓤 H En 0 .1) 0 (machN r)) ∷ Γ ≡ cells (code.function .locals) bs (full (machN r) ∷ contents Γ) ++
         (raw (deaths H (code.function .locals) bs) ∷ [])

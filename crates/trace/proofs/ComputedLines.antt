@@ -1,0 +1,24 @@
+-- The worked lines, computed.
+-- Assumes nothing.
+use mathlib.Core.Path.{refl}
+use Rattle.trace.specs.Numbers.{digit, digitsFrom, digitsOf, isHex, numberOf, upTo}
+use Rattle.trace.specs.Words.{spaces, ending, wordsAfter, words, rest, same, first}
+use Rattle.trace.specs.Lists.{isValue, areValues, countOf}
+use Rattle.trace.specs.Lines.{given, taking, only, start, call, entry, nonDelivery, allow, nameIn, named, spoken, isComment, eventOf}
+use Rattle.trace.specs.WorkedLines.{WorkedLines}
+
+pub worked-lines : WorkedLines
+unfolding digit digitsFrom digitsOf isHex numberOf upTo spaces ending wordsAfter words rest same first isValue areValues countOf given taking only start call
+    entry nonDelivery allow nameIn named spoken isComment eventOf
+worked-lines =
+    record {
+      start = refl;
+      call = refl;
+      entry = refl;
+      shadow = refl;
+      nonDelivery = refl;
+      allow = refl;
+      bare = refl;
+      unfilled = refl;
+      state = refl;
+    }

@@ -872,6 +872,11 @@ fn a_worked_list_with_lists_of_values() {
         listed(&mut m, &[0x041, 0x141, 0x11E, 0x102], 5),
         (Ok(0), codes)
     );
+    let bytes = page(&[(3, 1), (64, 0x41)]);
+    let mut entries: Vec<u32> = bytes.iter().map(|&b| b.into()).collect();
+    let before = entries.clone();
+    assert_eq!(allow(&mut m, 0, &[], &mut entries), Ok(0));
+    assert_eq!(entries, before);
     assert_eq!(disk(&mut m), counted(1, 0));
     assert_eq!(entry(&mut m, 0, true, false, false), shown);
     assert_eq!(listed(&mut m, &[0x11E], 1), (Ok(0), vec![BAD_VALUE]));

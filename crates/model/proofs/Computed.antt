@@ -27,7 +27,11 @@ unfolding Starred cases further checks values singleAfter listAfter listCodes gi
     written isRead isWrite isBoth kindOf pprOf ppr ldr tmr registerValue endedAt ended endedLevelAt endedLevel registration writeValue nameable
     permission requestOf serve callVerdict noticed offerHighest offer present entered emptied handed handBackResult vcpuVerdict verdict callEffect
     effect concluded step
-all = (record { starred = refl; further = refl }, record { checks = refl; nmi = tt; machineCheck = tt }, record { values = refl; told = λ x ks. refl; refuses = λ c ks. refl })
+all = (
+  record { starred = refl; further = refl },
+  record { checks = refl; nmi = tt; machineCheck = tt },
+  record { values = refl; told = λ x ks. refl; refuses = λ c ks. refl },
+)
 
 pub worked : Worked
 worked = all .0

@@ -30,7 +30,14 @@ unfolding Starred cases further checks values singleAfter listAfter listCodes gi
 all = (
   record { starred = refl; further = refl },
   record { checks = refl; nmi = tt; machineCheck = tt },
-  record { values = refl; told = λ x ks. refl; refuses = λ c ks. refl },
+  record {
+    values = refl;
+    told = λ x ks. refl;
+    refuses = λ c ks. refl;
+    listed = λ r cs q. (refl, refl);
+    paged = λ r p. (refl, refl);
+    noticed = λ r p. (refl, refl);
+  },
 )
 
 pub worked : Worked

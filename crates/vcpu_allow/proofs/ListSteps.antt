@@ -3,7 +3,7 @@
 use mathlib.Core.Path.{_≡_, refl, sym, ap, ap₂, _∙_}
 use mathlib.Core.Bool.{Bool, true, false, _||_}
 use mathlib.Core.List.{List, [], _∷_, _++_, map}
-use Prim.Native.Nat.{ℕ, suc, _<_}
+use Prim.Native.Nat.{ℕ, _<_}
 use lib.ListN.{length, take, drop}
 use borrow.Author.Tests.{lt-ltb}
 use Rattle.model.specs.declared.InFlight.the-variants.{Nothing}
@@ -94,18 +94,13 @@ none-permitted (c ∷ cs) s e = pick (nameable c) (someNameable cs) refl refl e 
     pick false false p q r ih = rw p (ih q)
 
 -- ---- the second list
-take-written : (ks q : List ℕ) → take (length ks) (ks ++ q) ≡ ks
-take-written [] q = refl
-take-written (k ∷ ks) q = ap (λ (l : List ℕ). k ∷ l) (take-written ks q)
-
-length-mapped : (f : ℕ → ℕ) (cs : List ℕ) → length (map f cs) ≡ length cs
-length-mapped f [] = refl
-length-mapped f (c ∷ cs) = ap suc (length-mapped f cs)
+first-mapped : (f : ℕ → ℕ) (cs q : List ℕ) → take (length cs) (map f cs ++ q) ≡ map f cs
+first-mapped f [] q = refl
+first-mapped f (c ∷ cs) q = ap (λ (l : List ℕ). f c ∷ l) (first-mapped f cs q)
 
 first-codes : (cs q : List ℕ) → take (length cs) (codesIn cs q) ≡ map valueCode cs
 unfolding codesIn
-first-codes cs q = ap (λ (n : ℕ). take n (map valueCode cs ++ drop (length cs) q)) (sym (length-mapped valueCode cs))
-    ∙ take-written (map valueCode cs) (drop (length cs) q)
+first-codes cs q = first-mapped valueCode cs _
 
 -- ---- the module after it
 -- the record that is stored where a value was accepted

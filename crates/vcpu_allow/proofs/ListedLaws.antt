@@ -50,10 +50,12 @@ module _ {g : Verdict} (xs ys s : List ℕ) where
   unfolding listedOn pageOn
   list-refused r c e f = (rw e f, rw e)
 
-  pub list-done : (b : Bool) (zs t : List ℕ) → g ≡ accept → b ≡ someNameable xs → zs ≡ codesIn xs ys → t ≡ permittedAll xs s
-      → (_≡_ {A = Listed} (record { outcome = Done 0; accepts = b; allowed = t }) (listedOn g xs s)) × (zs ≡ pageOn g (codesIn xs ys) ys)
-  unfolding listedOn pageOn
-  list-done b zs t e f k h = (
-    rw e (ap₂ (λ (b : Bool) (t : List ℕ). record { outcome = Done 0; accepts = b; allowed = t }) f h),
-    rw e k,
-  )
+  pub list-done : (r : Listed) (zs : List ℕ) → g ≡ accept → r ≡ listedOn accept xs s → zs ≡ codesIn xs ys
+      → (r ≡ listedOn g xs s) × (zs ≡ pageOn g (codesIn xs ys) ys)
+  unfolding pageOn
+  list-done r zs e f k = (rw e f, rw e k)
+
+pub list-taken : (xs s : List ℕ) (b : Bool) (t : List ℕ) → b ≡ someNameable xs → t ≡ permittedAll xs s
+    → _≡_ {A = Listed} (record { outcome = Done 0; accepts = b; allowed = t }) (listedOn accept xs s)
+unfolding listedOn
+list-taken xs s b t f h = ap₂ (λ (b : Bool) (t : List ℕ). record { outcome = Done 0; accepts = b; allowed = t }) f h

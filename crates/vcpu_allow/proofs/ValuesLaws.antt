@@ -15,24 +15,30 @@ use Rattle.model.specs.Requests.{nameable}
 use Rattle.vector_set.specs.Bits.{bitAt}
 use Rattle.vector_set.specs.Sets.{insert, remove, Words}
 use Rattle.vector_set.proofs.Laws.{words-insert, words-remove}
-use Rattle.vector_set.proofs.WordLaws.{insert-word, remove-word}
-use Rattle.vcpu_allow.specs.Values.{valueCode, permitted, permittedAll, someNameable, codesIn}
+use Rattle.vector_set.proofs.WordLaws.{one-shl, insert-word, remove-word}
+use Rattle.vcpu_allow.specs.Values.{valueCode, permitted, permittedWord, permittedAll, someNameable, codesIn}
 
 -- ---- one value
 module _ (c : ℕ) (s : List ℕ) where
-  pub value-refused : (r : ℕ) → nameable c ≡ false → r ≡ codeOf BadParameter → (r ≡ valueCode c) × (s ≡ permitted c s)
-  unfolding valueCode permitted
-  value-refused r e f = (rw e f, sym (ap (λ (b : Bool). cond b (cond (bitAt c 8) (insert (c % 256) s) (remove (c % 256) s)) s) e))
+  pub set-kept : nameable c ≡ false → s ≡ permitted c s
+  unfolding permitted
+  set-kept e = sym (ap (λ (b : Bool). cond b (cond (bitAt c 8) (insert (c % 256) s) (remove (c % 256) s)) s) e)
 
-  pub value-in : nameable c ≡ true → bitAt c 8 ≡ true → Words s
-      → (0 ≡ valueCode c) × (set s (c % 256 / 32) (bitOr (getD s (c % 256 / 32) 0) ((1 * 2 ^ (c % 256 % 32)) % 2 ^ 32)) ≡ permitted c s)
-  unfolding valueCode permitted
-  value-in e b w = (rw e, rw (e, b) (insert-word s (c % 256) w (omega arith)))
+  -- the word of its vector stored
+  pub set-changed : nameable c ≡ true → Words s → set s (c % 256 / 32) (permittedWord c (getD s (c % 256 / 32) 0)) ≡ permitted c s
+  unfolding permittedWord permitted
+  set-changed e w = rw e (go (bitAt c 8))
+    where
+      x : ℕ
+      x = getD s (c % 256 / 32) 0
 
-  pub value-out : nameable c ≡ true → bitAt c 8 ≡ false → Words s
-      → (0 ≡ valueCode c) × (set s (c % 256 / 32) (bitAnd (getD s (c % 256 / 32) 0) ((2 ^ 32 - 1) - (1 * 2 ^ (c % 256 % 32)) % 2 ^ 32)) ≡ permitted c s)
-  unfolding valueCode permitted
-  value-out e b w = (rw e, rw (e, b) (remove-word s (c % 256) w (omega arith)))
+      bit : (1 * 2 ^ (c % 256 % 32)) % 2 ^ 32 ≡ 2 ^ (c % 256 % 32)
+      bit = one-shl (c % 256 % 32) (omega arith)
+
+      go : (b : Bool) → set s (c % 256 / 32) (cond b (bitOr x (2 ^ (c % 256 % 32))) (bitAnd x (2 ^ 32 - 1 - 2 ^ (c % 256 % 32))))
+          ≡ cond b (insert (c % 256) s) (remove (c % 256) s)
+      go true = ap (λ (n : ℕ). set s (c % 256 / 32) (bitOr x n)) (sym bit) ∙ insert-word s (c % 256) w (omega arith)
+      go false = ap (λ (n : ℕ). set s (c % 256 / 32) (bitAnd x (2 ^ 32 - 1 - n))) (sym bit) ∙ remove-word s (c % 256) w (omega arith)
 
   pub words-permitted : Words s → Words (permitted c s)
   unfolding permitted
@@ -42,6 +48,24 @@ module _ (c : ℕ) (s : List ℕ) where
       go true true = words-insert (c % 256) s
       go true false = words-remove (c % 256) s
       go false b = w
+
+-- its word, as the code computes it
+pub word-in : (c w : ℕ) → bitAt c 8 ≡ true → bitOr w ((1 * 2 ^ (c % 256 % 32)) % 2 ^ 32) ≡ permittedWord c w
+unfolding permittedWord
+word-in c w e = rw (e, one-shl (c % 256 % 32) (omega arith))
+
+pub word-out : (c w : ℕ) → bitAt c 8 ≡ false → bitAnd w ((2 ^ 32 - 1) - (1 * 2 ^ (c % 256 % 32)) % 2 ^ 32) ≡ permittedWord c w
+unfolding permittedWord
+word-out c w e = rw (e, one-shl (c % 256 % 32) (omega arith))
+
+-- its code, by whether it may be named
+pub code-taken : (c : ℕ) → nameable c ≡ true → 0 ≡ valueCode c
+unfolding valueCode
+code-taken c e = rw e
+
+pub code-refused : (c r : ℕ) → nameable c ≡ false → r ≡ codeOf BadParameter → r ≡ valueCode c
+unfolding valueCode
+code-refused c r e f = rw e f
 
 -- the code 0 says that it is accepted
 pub code-zero : (c : ℕ) → valueCode c ≡ 0 → nameable c ≡ true

@@ -2,7 +2,8 @@
 -- Assumes nothing.
 use mathlib.Core.Bool.{Bool, false, cond, _||_}
 use mathlib.Core.List.{List, [], _∷_, _++_, map}
-use Prim.Native.Nat.{ℕ, _%_}
+use Prim.Native.Nat.{ℕ, _-_, _%_, _^_}
+use lib.Bits.{bitAnd, bitOr}
 use lib.ListN.{length, drop}
 use Rattle.vcpu_allow.specs.declared.Listed.{Listed}
 use Rattle.model.specs.declared.Outcome.the-variants.{Done, Refused}
@@ -23,6 +24,10 @@ valueCode c = cond (nameable c) 0 (codeOf BadParameter)
 -- the set after it: the vector is put in or taken out by bit 8, if it may be named (5.16, 5.17)
 unfoldable pub permitted : ℕ → List ℕ → List ℕ
 permitted c s = cond (nameable c) (cond (bitAt c 8) (insert (c % 256) s) (remove (c % 256) s)) s
+
+-- the word w of its vector after it, if it may be named
+unfoldable pub permittedWord : ℕ → ℕ → ℕ
+permittedWord c w = let b = 2 ^ (c % 256 % 32) in cond (bitAt c 8) (bitOr w b) (bitAnd w (2 ^ 32 - 1 - b))
 
 -- ---- the list
 -- the set after all values, in their order (5.27, 5.28)

@@ -3,9 +3,9 @@ ghost use mathlib.Core.Path.{_≡_};
 ghost use mathlib.Core.Bool.{false};
 ghost use Prim.Native.Nat.{_≤_};
 ghost use lib.ListN.{length};
-ghost use Rattle.vector_set.specs.Sets.{Words};
+ghost use Rattle.model.specs.Codes.{accept};
 ghost use Rattle.vcpu.specs.Records.{pageOn};
-ghost use Rattle.vcpu_allow.specs.Values.{valueCode, permitted, permittedAll, someNameable, listVerdict, codesIn, listedOn};
+ghost use Rattle.vcpu_allow.specs.Values.{valueCode, permittedWord, listVerdict, codesIn, listedOn};
 use model::Outcome;
 use model::Phase;
 use model::Refusal;
@@ -31,42 +31,55 @@ fn refused(c: Refusal, allowed: [u32; 8]) -> Listed
     }
 }
 
-// One value: its code, and the set with the word of its vector changed in place (5.16 to 5.18, 5.29).
-fn permit_value(ecx: u32, set: &mut [u32; 8]) -> u32
-    requires { ⌜ Words (now set) ⌝ }
-    ensures { λ r. ⌜ (r ≡ valueCode ecx) × (now (set .exit) ≡ permitted ecx (now (set .entry))) ⌝ }
+// The code of one value (5.17, 5.18, 5.29).
+fn value_code(ecx: u32) -> u32
+    ensures { λ r. ⌜ r ≡ valueCode ecx ⌝ }
 {
-    let v = ecx % 256;
-    if !requests::is_nameable(ecx) {
-        return gate::code(Refusal::BadParameter);
-    }
-    let k = (v / 32) as usize;
-    let bit = 1 << (v % 32);
-    if (ecx >> ALLOW_BIT) % 2 == 1 {
-        set[k] = set[k] | bit;
+    if requests::is_nameable(ecx) {
+        0
     } else {
-        set[k] = set[k] & !bit;
+        gate::code(Refusal::BadParameter)
     }
-    0
 }
 
-// Each value in order, with a code for each: a refused one does not stop the rest. Answers whether one was accepted.
-fn permit_all(values: &[u32], codes: &mut [u32], set: &mut [u32; 8]) -> bool
-    requires { ⌜ (length (now values) ≤ length (now codes)) × Words (now set) ⌝ }
-    ensures { λ r. ⌜ (r ≡ someNameable (now (values .entry))) × (now (codes .exit) ≡ codesIn (now (values .entry)) (now (codes .entry)))
-        × (now (set .exit) ≡ permittedAll (now (values .entry)) (now (set .entry))) ⌝ }
+// The word of the value's vector, with the vector put in or taken out (5.16).
+fn permit_word(word: u32, ecx: u32) -> u32
+    ensures { λ r. ⌜ r ≡ permittedWord ecx word ⌝ }
 {
+    let v = ecx % 256;
+    let bit = 1 << (v % 32);
+    if (ecx >> ALLOW_BIT) % 2 == 1 {
+        word | bit
+    } else {
+        word & !bit
+    }
+}
+
+// A list that is taken: each value in order, with a code for each, and a refused one does not stop the rest. The set is changed word by word.
+fn permit_all(values: &[u32], codes: &mut [u32], allowed: [u32; 8]) -> Listed
+    requires { ⌜ length (now values) ≤ length (now codes) ⌝ }
+    ensures { λ r. ⌜ (r ≡ listedOn accept (now (values .entry)) allowed)
+        × (now (codes .exit) ≡ codesIn (now (values .entry)) (now (codes .entry))) ⌝ }
+{
+    let mut set = allowed;
     let mut accepts = false;
     let mut k = 0;
     while k < values.len() {
-        let code = permit_value(values[k], set);
+        let ecx = values[k];
+        let code = value_code(ecx);
         codes[k] = code;
         if code == 0 {
+            let w = (ecx % 256 / 32) as usize;
+            set[w] = permit_word(set[w], ecx);
             accepts = true;
         }
         k += 1;
     }
-    accepts
+    Listed {
+        outcome: Outcome::Done(0),
+        accepts,
+        allowed: set,
+    }
 }
 
 // A list for a vCPU in the phase, with the set allowed: the code of each value goes to the second list, whose entries past the count stay.
@@ -81,11 +94,5 @@ pub fn allow_values(values: &[u32], codes: &mut [u32], phase: Phase, allowed: [u
     if MOST_VALUES < values.len() || codes.len() < values.len() {
         return refused(Refusal::BadList, allowed);
     }
-    let mut set = allowed;
-    let accepts = permit_all(values, codes, &mut set);
-    Listed {
-        outcome: Outcome::Done(0),
-        accepts,
-        allowed: set,
-    }
+    permit_all(values, codes, allowed)
 }

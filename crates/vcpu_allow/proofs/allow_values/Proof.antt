@@ -6,7 +6,6 @@ use borrow.Author.Needs.{needs}
 use borrow.Author.Tests.{ltb-true, ltb-false}
 use Rattle.model.specs.declared.Refusal.the-variants.{NotActive, BadList}
 use Rattle.model.specs.State.{isActive}
-use Rattle.vector_set.proofs.WordLaws.{array-words}
 use Rattle.vcpu.proofs.Told.{not-active}
 use Rattle.vcpu_allow.proofs.ListedLaws.{too-many, no-room, fits, wrong-phase, bad-list, right, list-refused, list-done}
 use Rattle.vcpu_allow.proofs.allow_values.Statement.{statement}
@@ -29,25 +28,16 @@ returns-2 c =
     (⊎-elim (λ w. too-many xs ys (omega arith)) (λ w. no-room xs ys (omega (arith, ltb-true))) (c .before .if1 .came)))
     (c .refused2 .ensures)
 
-permit-all-requires : tie.Need-permit-all-requires
-permit-all-requires c κs =
-    let b = c .before .before in
-    let s = b .before .before .before .before .before .before in (
-      omega (arith, ltb-false),
-      array-words (s .args .allowed) _ (s .good .1 .1 .1 .0),
-    )
-
 returns-3 : tie.Need-returns-3
 returns-3 c =
     let p = c .before .before in
-    let b = p .before .before .before in
-    let e = b .before .before in
+    let e = p .before .before .before .before in
     let a = e .before .before .before .before .args in
     let xs = a .values .now in
     let ys = a .codes .now in
-    list-done xs ys (a .allowed) (p .permit-all .result) (p .permit-all .last .1 .0) (p .permit-all .last .1 .1 .0)
+    list-done xs ys (a .allowed) (p .permit-all .result) (p .permit-all .last .1 .0)
     (right (a .phase) xs ys (ap isActive (e .enum-told .given .1)) (fits xs ys (omega arith) (omega (arith, ltb-false))))
-    (p .permit-all .ensures .0) (p .permit-all .ensures .1) (p .permit-all .ensures .2)
+    (p .permit-all .ensures .0) (p .permit-all .ensures .1)
 
 pub allow-values-spec : {M : Type 1} → statement M
 allow-values-spec =
@@ -58,6 +48,6 @@ allow-values-spec =
     returns
     (λ c κs. search needs)
     returns-2
-    permit-all-requires
+    (λ c κs. omega (arith, ltb-false))
     (λ c. search needs)
     returns-3)

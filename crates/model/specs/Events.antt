@@ -197,7 +197,7 @@ byVerdict (refuse c) u v = v
 unfoldable pub singleAfter : ℕ → ℕ → ℕ → Vcpu → Vcpu
 singleAfter i k c v = byVerdict (vcpuVerdict i k v (single c)) (callEffect (requestOf 4 c 0) i k v .vcpu) v
 
--- after all of them: a refused one does not stop the rest (5.27, 5.28, 5.32)
+-- after all of them, those behind a refused one too (5.27, 5.28, 5.32)
 unfoldable pub listAfter : ℕ → ℕ → List ℕ → Vcpu → Vcpu
 listAfter i k [] v = v
 listAfter i k (c ∷ cs) v = listAfter i k cs (singleAfter i k c v)

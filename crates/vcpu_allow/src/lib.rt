@@ -55,7 +55,7 @@ fn permit_word(word: u32, ecx: u32) -> u32
     }
 }
 
-// A list that is taken: each value in order, with a code for each, and a refused one does not stop the rest. The set is changed word by word.
+// A list that is taken: each value in order, with a code for each, those behind a refused one too. The set is changed word by word.
 fn permit_all(values: &[u32], codes: &mut [u32], allowed: [u32; 8]) -> Listed
     requires { ⌜ length (now values) ≤ length (now codes) ⌝ }
     ensures { λ r. ⌜ (r ≡ listedOn accept (now (values .entry)) allowed)

@@ -34,9 +34,10 @@ all = (
     values = refl;
     told = λ x ks. refl;
     refuses = λ c ks. refl;
-    listed = λ r cs q. (refl, refl);
-    paged = λ r p. (refl, refl);
-    noticed = λ r p. (refl, refl);
+    listed = λ r cs q. (refl, refl, refl);
+    paged = λ r p. (refl, refl, refl);
+    noticed = λ r p. (refl, refl, refl);
+    entered = λ r. (refl, refl);
   },
 )
 

@@ -4,7 +4,7 @@ use mathlib.Core.Path.{_≡_}
 use mathlib.Core.Bool.{Bool, true, false, not, _&&_}
 use mathlib.Core.List.{List, [], _∷_}
 use Prim.Native.Nat.{ℕ}
-use lib.ListN.{replicate}
+use lib.ListN.{length, take, replicate}
 use Rattle.model.specs.declared.Phase.the-variants.{Leaving, Left}
 use Rattle.model.specs.declared.Refusal.{Refusal}
 use Rattle.model.specs.declared.Refusal.the-variants.{BadList}
@@ -12,10 +12,11 @@ use Rattle.model.specs.declared.Outcome.the-variants as outcome
 use Rattle.model.specs.declared.Module.{Module}
 use Rattle.model.specs.declared.Stepped.{Stepped}
 use Rattle.model.specs.declared.Noticed.{Noticed}
+use Rattle.model.specs.declared.Entered.{Entered}
 use Rattle.vector_set.specs.Sets.{empty, insert}
 use Rattle.model.specs.State.{vcpuAt, withAllowed, withPhase}
-use Rattle.model.specs.Codes.{coded, resultOf, listResult, accepted}
-use Rattle.model.specs.Events.{call, allow, nonDelivery, at, Event, next, outOf, noticedOut, listedOut}
+use Rattle.model.specs.Codes.{coded, resultOf, admissionResult, presentedResult, listResult, accepted}
+use Rattle.model.specs.Events.{call, allow, nonDelivery, at, Event, next, outOf, noticedOut, enteredOut, listedOut}
 use Rattle.model.specs.Demand2.{isCall, isRequest}
 use Rattle.model.specs.Cases.{sameNumbers, gives, givesCodes, isRefused, fresh2, having, record0, singleton, pending41, resultOn, every}
 use Rattle.model.specs.Worked.{pageAfter, enters}
@@ -108,7 +109,10 @@ pub record WorkedValues : Type 0 where
   -- what the answer to a list says, for every number, code and refusal (13.9)
   pub told : (x : ℕ) (ks : List ℕ) → listResult (outcome.Done x) ks ≡ coded x ks
   pub refuses : (c : Refusal) (ks : List ℕ) → listResult (outcome.Refused c) ks ≡ resultOf (outcome.Refused c)
-  -- and that a contract speaks of the very module and of the very page or second list after the event (13.7)
-  pub listed : (r : Stepped) (cs q : List ℕ) → (listedOut r cs q .after ≡ r .after) × (listedOut r cs q .page ≡ q)
-  pub paged : (r : Stepped) (p : List ℕ) → (outOf r p .after ≡ r .after) × (outOf r p .page ≡ p)
-  pub noticed : (r : Noticed) (p : List ℕ) → (noticedOut r p .after ≡ r .after) × (noticedOut r p .page ≡ p)
+  -- and that a contract speaks of the very answer, of the very module and of the very page or second list after the event (13.7, 13.9)
+  pub listed : (r : Stepped) (cs q : List ℕ)
+      → (listedOut r cs q .result ≡ listResult (r .outcome) (take (length cs) q)) × (listedOut r cs q .after ≡ r .after) × (listedOut r cs q .page ≡ q)
+  pub paged : (r : Stepped) (p : List ℕ) → (outOf r p .result ≡ resultOf (r .outcome)) × (outOf r p .after ≡ r .after) × (outOf r p .page ≡ p)
+  pub noticed : (r : Noticed) (p : List ℕ)
+      → (noticedOut r p .result ≡ admissionResult (r .admission)) × (noticedOut r p .after ≡ r .after) × (noticedOut r p .page ≡ p)
+  pub entered : (r : Entered) → (enteredOut r .result ≡ presentedResult (r .presentation)) × (enteredOut r .after ≡ r .after)

@@ -1,6 +1,11 @@
 -- The worked lines, computed.
 -- Assumes nothing.
-use mathlib.Core.Path.{refl}
+use mathlib.Core.Path.{_≡_, refl, sym, ap, _∙_}
+use mathlib.Core.List.{List, [], _∷_, map}
+use Prim.Native.Nat.{ℕ}
+use lib.ListN.{take}
+use Rattle.trace.specs.declared.Number.{Number}
+use Rattle.trace.specs.declared.Number.the-variants.{Value, Invalid}
 use Rattle.trace.specs.Numbers.{digit, digitsFrom, digitsOf, isHex, numberOf, upTo}
 use Rattle.trace.specs.Words.{spaces, ending, wordsAfter, words, rest, same, first}
 use Rattle.trace.specs.Lists.{isValue, areValues, countOf}
@@ -8,6 +13,15 @@ use Rattle.trace.specs.Pages.{fill}
 use Rattle.trace.specs.Lines.{given, taking, only, paged, start, notice, call, entry, nonDelivery, handBack, allow, nameIn, named, spoken, isComment}
 use Rattle.trace.specs.Lines.{eventOf}
 use Rattle.trace.specs.WorkedLines.{WorkedLines}
+
+-- a list of numbers is known by its values
+abbrev valueIn : Number → ℕ
+valueIn (Value v) = v
+valueIn Invalid = 0
+
+values-in : (vs : List ℕ) → map valueIn (map Value vs) ≡ vs
+values-in [] = refl
+values-in (v ∷ vs) = ap (λ us. v ∷ us) (values-in vs)
 
 pub worked-lines : WorkedLines
 unfolding digit digitsFrom digitsOf isHex numberOf upTo spaces ending wordsAfter words rest same first isValue areValues countOf given taking only start call
@@ -24,6 +38,10 @@ worked-lines =
       bare = refl;
       largest = refl;
       unfilled = refl;
+      tooLong = refl;
+      tooWide = refl;
+      garbled = refl;
+      values = λ vs h. sym (ap (map valueIn) (h .2) ∙ values-in (take 2 vs));
       notice = refl;
       handBack = refl;
       shadowed = refl;

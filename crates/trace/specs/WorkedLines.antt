@@ -1,10 +1,13 @@
--- Worked lines: which word of a line is which argument.
+-- Worked lines: which word of a line is which argument, and which are the values of a list.
 -- Assumes nothing.
 use mathlib.Core.Path.{_≡_}
 use mathlib.Core.Bool.{true, false}
+use mathlib.Core.List.{List, [], _∷_}
+use Prim.Native.Nat.{ℕ}
+use lib.ListN.{take}
 use Rattle.trace.specs.declared.Event.the-variants.{Unreadable, Start, Notice, Call, Entry, NonDelivery, HandBack, Allow, State}
-use Rattle.trace.specs.Words.{ascii}
-use Rattle.trace.specs.Lines.{eventOf}
+use Rattle.trace.specs.Words.{ascii, words}
+use Rattle.trace.specs.Lines.{eventOf, ValuesAre}
 
 pub record WorkedLines : Type 0 where
   pub start : eventOf (ascii "start 2 1") ≡ Start 2 1
@@ -18,6 +21,11 @@ pub record WorkedLines : Type 0 where
   pub bare : eventOf (ascii "allow 1 0 0") ≡ Allow 1 0 0 0
   pub largest : eventOf (ascii "allow 0xffffffff 1024 0xffffffff 0xffffffff") ≡ Allow 0xFFFFFFFF 1 1024 0xFFFFFFFF
   pub unfilled : eventOf (ascii "allow 1 5") ≡ Unreadable
+  pub tooLong : eventOf (ascii "allow 1 1025 0") ≡ Unreadable
+  pub tooWide : eventOf (ascii "allow 1 1 0 0x141 0x100000000") ≡ Unreadable
+  pub garbled : eventOf (ascii "allow 1 1 0 0x141 x") ≡ Unreadable
+  -- and the values that stand beside it, in the line's order
+  pub values : (vs : List ℕ) → ValuesAre (words (ascii "1 5 3 0x141 0x52")) (Allow 1 2 5 3) vs → take 2 vs ≡ 0x141 ∷ 0x52 ∷ []
   pub notice : eventOf (ascii "notice 1 256") ≡ Notice 1 256
   pub handBack : eventOf (ascii "handback 1 1 0 256") ≡ HandBack 1 true false 256
   pub shadowed : eventOf (ascii "handback 1 0 1 256") ≡ HandBack 1 false true 256

@@ -1,6 +1,7 @@
 -- Functions `fn(m: &mut Module, vcpu: u32, page: &mut [u8], ..) -> ..` that pass the page on to a function of the page: `fn(page: &mut [u8], ..) -> ..`. It
 -- says nothing of any function.
 --     lent, spent              the page, with its bytes; what is left of it once it is given up
+--     AfterBeside, ends-beside what a walk has to reach that is lent more than the module; that it is reached
 --     AfterPage, leaves-page   what a walk has to reach, and its last step.        leaves-with    the same where what the locals hold is said: it costs less
 --     keeps-page               the page is given up as it was, on a way out that does not pass it on
 --     walk-proves-page                a walk is a proof of the contract
@@ -62,25 +63,30 @@ module _ {M : Type 1} (𝓤 : URA M) (H : Heap 𝓤) (A : Atoms 𝓤) (κ : Lft)
   abbrev pub spent : List ℕ → List (Item 𝓤)
   spent ys = ‵ (finally u8 γ ys) ∷ ‵ (flft κ q) ∷ []
 
+-- where a walk ends that is lent a page or a list beside the module: of the module and of what the page or list holds then, `settled` says what is left
+module _ {M : Type 1} (𝓤 : URA M) (H : Heap 𝓤) (A : Atoms 𝓤) (settled : Module → List ℕ → List (Item 𝓤)) (ys : List ℕ) (R : RattleType)
+    (Q : R .Denot → Module → List ℕ → Type 0) where
+  abbrev pub beside : Val → R .Denot → Module → List ℕ → Item 𝓤
+  beside v r h zs = raw (⋆ 𝓤 H A (settled h zs)) ⊛ (‵ (R .own r (v ∷ [])) ⊛ raw (fact 𝓤 (Q r h zs × (length zs ≡ length ys))))
+
+  abbrev pub AfterBeside : Val → SProp 𝓤
+  AfterBeside v = mean 𝓤 H A (some (λ (r : R .Denot). some (λ (h : Module). some (λ (zs : List ℕ). beside v r h zs))))
+
+  pub ends-beside : Given 𝓤 H A → Makes 𝓤 H A R (Is R) → (v : Val) (r : R .Denot) (h : Module) (zs : List ℕ) → Is R r (v ∷ []) → Q r h zs
+      → length zs ≡ length ys → ent 𝓤 (⋆ 𝓤 H A (settled h zs)) (AfterBeside v)
+  ends-beside W mk v r h zs is said l =
+      qed W (raw (⋆ 𝓤 H A (settled h zs)) ∷ []) ∵ show ! (λ (r′ : R .Denot). mean 𝓤 H A
+      (some (λ (h′ : Module). some (λ (zs′ : List ℕ). beside v r′ h′ zs′)))) r $
+      show ! (λ (h′ : Module). mean 𝓤 H A (some (λ (zs′ : List ℕ). beside v r h′ zs′))) h $ show ! (λ (zs′ : List ℕ). mean 𝓤 H A (beside v r h zs′)) zs $
+      frame ! $
+      says ! (said, l) $ owned ! R (Is R) mk r (v ∷ []) is $ keep ! (0 ∷ []) $ done !
+
 module _ {M : Type 1} (𝓤 : URA M) (H : Heap 𝓤) (A : Atoms 𝓤) (κ : Lft) (q : Share) (b o : ℕ) (γ : GName) (κ′ : Lft) (q′ : Share) (b′ o′ : ℕ) (γ′ : GName) where
   abbrev both-settled : Module → List ℕ → List (Item 𝓤)
   both-settled h zs = ‵ (fres γ (T.the-row .coded .code h)) ∷ ‵ (flft κ q) ∷ ‵ (finally u8 γ′ zs) ∷ ‵ (flft κ′ q′) ∷ []
 
-  module _ (ys : List ℕ) (R : RattleType) (Q : R .Denot → Module → List ℕ → Type 0) where
-    abbrev result : Val → R .Denot → Module → List ℕ → Item 𝓤
-    result v r h zs = raw (⋆ 𝓤 H A (both-settled h zs)) ⊛ (‵ (R .own r (v ∷ [])) ⊛ raw (fact 𝓤 (Q r h zs × (length zs ≡ length ys))))
-
-    abbrev pub AfterPage : Val → SProp 𝓤
-    AfterPage v = mean 𝓤 H A (some (λ (r : R .Denot). some (λ (h : Module). some (λ (zs : List ℕ). result v r h zs))))
-
-    ends : Given 𝓤 H A → Makes 𝓤 H A R (Is R) → (v : Val) (r : R .Denot) (h : Module) (zs : List ℕ) → Is R r (v ∷ []) → Q r h zs → length zs ≡ length ys
-        → ent 𝓤 (⋆ 𝓤 H A (both-settled h zs)) (AfterPage v)
-    ends W mk v r h zs is said l =
-        qed W (raw (⋆ 𝓤 H A (both-settled h zs)) ∷ []) ∵ show ! (λ (r′ : R .Denot). mean 𝓤 H A
-        (some (λ (h′ : Module). some (λ (zs′ : List ℕ). result v r′ h′ zs′)))) r $
-        show ! (λ (h′ : Module). mean 𝓤 H A (some (λ (zs′ : List ℕ). result v r h′ zs′))) h $ show ! (λ (zs′ : List ℕ). mean 𝓤 H A (result v r h zs′)) zs $
-        frame ! $
-        says ! (said, l) $ owned ! R (Is R) mk r (v ∷ []) is $ keep ! (0 ∷ []) $ done !
+  abbrev pub AfterPage : List ℕ → (R : RattleType) → (R .Denot → Module → List ℕ → Type 0) → Val → SProp 𝓤
+  AfterPage ys R Q = AfterBeside 𝓤 H A both-settled ys R Q
 
 module _ {M : Type 1} {𝓤 : URA M} {H : Heap 𝓤} {A : Atoms 𝓤} {K : Type 0} {W : Given 𝓤 H A} where
   -- the page, fifth in the context, is given up as it was
@@ -108,7 +114,7 @@ module _ {M : Type 1} {𝓤 : URA M} {H : Heap 𝓤} {A : Atoms 𝓤} {K : Type 
         returns-within t (AfterPage 𝓤 H A κ q b o γ κ′ q′ b′ o′ γ′ ys R Q) out (look t 4 refl) $
         frees-all t (both-settled 𝓤 H A κ q b o γ κ′ q′ b′ o′ γ′ h zs) {Γ = ‵ (fat fullShare (spotOf 𝓤 H (env ls bs) 0 .0) (spotOf 𝓤 H (env ls bs) 0 .1) 0 w)
         ∷ Γ} ls bs e $
-        by t (ends 𝓤 H A κ q b o γ κ′ q′ b′ o′ γ′ ys R Q W mk w r h zs is said l)
+        by t (ends-beside 𝓤 H A (both-settled 𝓤 H A κ q b o γ κ′ q′ b′ o′ γ′) ys R Q W mk w r h zs is said l)
 
     pub leaves-with : K → (b o b′ o′ : ℕ) (ys zs : List ℕ) (R : RattleType) → Makes 𝓤 H A R (Is R) → (Q : R .Denot → Module → List ℕ → Type 0) (r : R .Denot)
         (h : Module) (w : Val) → Is R r (w ∷ []) → Q r h zs → length zs ≡ length ys
@@ -123,7 +129,7 @@ module _ {M : Type 1} {𝓤 : URA M} {H : Heap 𝓤} {A : Atoms 𝓤} {K : Type 
         move t (1 ∷ []) $ drop t $
         returns-within t (AfterPage 𝓤 H A κ q b o γ κ′ q′ b′ o′ γ′ ys R Q) out (look t 4 e) $
         frees-with t (both-settled 𝓤 H A κ q b o γ κ′ q′ b′ o′ γ′ h zs) ls bs (full w ∷ cs) $
-        by t (ends 𝓤 H A κ q b o γ κ′ q′ b′ o′ γ′ ys R Q W mk w r h zs is said l)
+        by t (ends-beside 𝓤 H A (both-settled 𝓤 H A κ q b o γ κ′ q′ b′ o′ γ′) ys R Q W mk w r h zs is said l)
 
 -- ---- the function that is passed the page
 module _ (ts : List (Slot 1)) (ks : Kepts ts) (res : Slot 1) where
@@ -256,8 +262,8 @@ module _ (ts : List (Slot 2)) (ks : Kepts ts) (res : Slot 2) where
       exits : (v : Val) → ent 𝓤 (AfterPage 𝓤 H A κ q b o γ κ′ q′ b′ o′ γ′ ys N (Says κs h i ys a) v)
           (walkOf 𝓤 H A OverPage stayed (module-says 𝓤) .post whole-bound v)
       exits v =
-          qed W (some (λ (r : N .Denot). some (λ (h′ : Module). some (λ (zs : List ℕ). result 𝓤 H A κ q b o γ κ′ q′ b′ o′ γ′ ys N (Says κs h i ys a) v r h′
-          zs))) ∷ []) ∵ pick ! (λ r. pick ! (λ h′. pick ! (λ zs. split ! $ move ! (1 ∷ []) $ split ! $ move ! (1 ∷ []) $
+          qed W (some (λ (r : N .Denot). some (λ (h′ : Module). some (λ (zs : List ℕ). beside 𝓤 H A (both-settled 𝓤 H A κ q b o γ κ′ q′ b′ o′ γ′) ys N
+          (Says κs h i ys a) v r h′ zs))) ∷ []) ∵ pick ! (λ r. pick ! (λ h′. pick ! (λ zs. split ! $ move ! (1 ∷ []) $ split ! $ move ! (1 ∷ []) $
           heard ! (Says κs h i ys a r h′ zs × (length zs ≡ length ys)) (λ said.
           suffices ! _ (ends-at 𝓤 H A OverPage stayed (module-says 𝓤) W whole-bound v r (h′, (tt, (zs, lasts-of κs ts ks un a)))
           (tt, (tt, (said .1, fits-of κs ts ks a (lasts-of κs ts ks un a))))) $

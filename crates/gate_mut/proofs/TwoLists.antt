@@ -56,6 +56,7 @@ use Rattle.model.proofs.Module as T
 use Rattle.gate_mut.proofs.Frame.{Blocks, env, cells, deaths, frees-with}
 use Rattle.gate_mut.proofs.OnModule.{held}
 use Rattle.gate_mut.proofs.OnePage.{finds-at}
+use Rattle.gate_mut.proofs.Page.{beside, AfterBeside, ends-beside}
 use Rattle.gate_mut.proofs.Record.{Stands, var-at, sets-at}
 
 pub record Loan : Type 0 where
@@ -89,21 +90,8 @@ module _ {M : Type 1} (𝓤 : URA M) (H : Heap 𝓤) (A : Atoms 𝓤) (κ : Lft)
   abbrev all-settled : Module → List ℕ → List (Item 𝓤)
   all-settled h zs = ‵ (fres γ (T.the-row .coded .code h)) ∷ ‵ (flft κ q) ∷ given-up x y zs
 
-  module _ (ys : List ℕ) (R : RattleType) (Q : R .Denot → Module → List ℕ → Type 0) where
-    abbrev result : Val → R .Denot → Module → List ℕ → Item 𝓤
-    result v r h zs = raw (⋆ 𝓤 H A (all-settled h zs)) ⊛ (‵ (R .own r (v ∷ [])) ⊛ raw (fact 𝓤 (Q r h zs × (length zs ≡ length ys))))
-
-    abbrev pub AfterLists : Val → SProp 𝓤
-    AfterLists v = mean 𝓤 H A (some (λ (r : R .Denot). some (λ (h : Module). some (λ (zs : List ℕ). result v r h zs))))
-
-    ends : Given 𝓤 H A → Makes 𝓤 H A R (Is R) → (v : Val) (r : R .Denot) (h : Module) (zs : List ℕ) → Is R r (v ∷ []) → Q r h zs → length zs ≡ length ys
-        → ent 𝓤 (⋆ 𝓤 H A (all-settled h zs)) (AfterLists v)
-    ends W mk v r h zs is said l =
-        qed W (raw (⋆ 𝓤 H A (all-settled h zs)) ∷ []) ∵ show ! (λ (r′ : R .Denot). mean 𝓤 H A
-        (some (λ (h′ : Module). some (λ (zs′ : List ℕ). result v r′ h′ zs′)))) r $
-        show ! (λ (h′ : Module). mean 𝓤 H A (some (λ (zs′ : List ℕ). result v r h′ zs′))) h $ show ! (λ (zs′ : List ℕ). mean 𝓤 H A (result v r h zs′)) zs $
-        frame ! $
-        says ! (said, l) $ owned ! R (Is R) mk r (v ∷ []) is $ keep ! (0 ∷ []) $ done !
+  abbrev pub AfterLists : List ℕ → (R : RattleType) → (R .Denot → Module → List ℕ → Type 0) → Val → SProp 𝓤
+  AfterLists ys R Q = AfterBeside 𝓤 H A all-settled ys R Q
 
 module _ {M : Type 1} {𝓤 : URA M} {H : Heap 𝓤} {A : Atoms 𝓤} {K : Type 0} {W : Given 𝓤 H A} where
   -- the lists, fifth in the context, are given up as they were
@@ -129,7 +117,7 @@ module _ {M : Type 1} {𝓤 : URA M} {H : Heap 𝓤} {A : Atoms 𝓤} {K : Type 
         move t (1 ∷ []) $ drop t $
         returns-within t (AfterLists 𝓤 H A κ q b o γ x y ys R Q) out (look t 5 e) $
         frees-with t (all-settled 𝓤 H A κ q b o γ x y h zs) ls bs (full w ∷ cs) $
-        by t (ends 𝓤 H A κ q b o γ x y ys R Q W mk w r h zs is said l)
+        by t (ends-beside 𝓤 H A (all-settled 𝓤 H A κ q b o γ x y) ys R Q W mk w r h zs is said l)
 
 -- ---- the function that is passed the lists, with the slots ts after them
 module _ (ts : List (Slot 2)) (ks : Kepts ts) (res : Slot 2) where
@@ -272,7 +260,8 @@ module _ (res : Slot 3) where
 
       exits : (v : Val) → ent 𝓤 (AfterLists 𝓤 H A κ q b o γ x y ys N (Says κs h i xs ys) v) (walkOf 𝓤 H A OverLists stayed (module-says 𝓤) .post whole-bound v)
       exits v =
-          qed W (some (λ (r : N .Denot). some (λ (h′ : Module). some (λ (zs : List ℕ). result 𝓤 H A κ q b o γ x y ys N (Says κs h i xs ys) v r h′ zs))) ∷ []) ∵
+          qed W (some (λ (r : N .Denot). some (λ (h′ : Module). some (λ (zs : List ℕ). beside 𝓤 H A (all-settled 𝓤 H A κ q b o γ x y) ys N
+          (Says κs h i xs ys) v r h′ zs))) ∷ []) ∵
           pick ! (λ r. pick ! (λ h′. pick ! (λ zs. split ! $ move ! (1 ∷ []) $ split ! $ move ! (1 ∷ []) $
           heard ! (Says κs h i xs ys r h′ zs × (length zs ≡ length ys)) (λ said.
           suffices ! _ (ends-at 𝓤 H A OverLists stayed (module-says 𝓤) W whole-bound v r (h′, (tt, (tt, (zs, tt)))) (tt, (tt, (tt, (said .1, tt))))) $

@@ -1,1 +1,4 @@
+pub mod Marks
 pub mod Searched
+pub mod SearchedMarked
+pub mod Turns

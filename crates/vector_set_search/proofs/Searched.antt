@@ -29,7 +29,7 @@ at-most-eight s = go (highest s) refl
     go (some v) e = let l : v < 256 = highest-has s v e .1 in omega (arith, reads s (some v) e)
 
 -- ---- a word without members is 0
-is-zero : (s : List ℕ) (k : ℕ) → Words s → k < 8 → ((v : ℕ) → v < 256 → v / 32 ≡ k → has s v ≡ false) → getD s k 0 ≡ 0
+pub is-zero : (s : List ℕ) (k : ℕ) → Words s → k < 8 → ((v : ℕ) → v < 256 → v / 32 ≡ k → has s v ≡ false) → getD s k 0 ≡ 0
 is-zero s k w l h =
     number-ext 32 (getD s k 0) 0 (w .small k l) (omega arith)
     (λ b r. sym (has-word s k b r) ∙ h (32 * k + b) (omega arith) (omega arith) ∙ sym (bit-zero b))

@@ -4,13 +4,14 @@ use mathlib.Core.Path.{refl}
 use Rattle.vector_set.specs.Bits.{bits}
 use Rattle.vector_set.specs.Sets.{has, words, collect, empty, full, insert, remove, union, difference}
 use Rattle.vector_set.specs.Sets.{highestBelow, highest, countBelow, count, isEmpty, wordOf}
+use Rattle.vector_set.specs.Summaries.{summaryOf, inMarked, remade}
 use Rattle.model.specs.State.{bare, size, vcpuAt, started, start, stopped, withVcpu, withRegistrations}
 use Rattle.model.specs.Items.{itemCount, mark, unmark, markAll, unmarkAll}
 use Rattle.model.specs.Doorbell.{bitOf, bytesFrom, mapBits, announces, descriptor, noPart, admitsMark, admitsLevel, admitsEdge, admits}
 use Rattle.model.specs.Doorbell.{admitted, items, clearsBit, clears, noticedPage, handedBit, servingBit, handedBytes, written}
 use Rattle.model.specs.Registers.{isRead, isWrite, isBoth, kindOf, pprOf, ppr, ldr, tmr, registerValue, endedAt, ended, endedLevelAt, endedLevel}
 use Rattle.model.specs.Requests.{registration, writeValue, nameable, permission, requestOf, serve, callVerdict}
-use Rattle.model.specs.Events.{noticed, itemsNew, itemsMerged, offerHighest, offer, present, entered, emptied, handed, handBackResult}
+use Rattle.model.specs.Events.{noticed, itemsNew, itemsMerged, offerHighest, offerWith, offer, present, entered, emptied, handed, handBackResult}
 use Rattle.model.specs.Events.{vcpuVerdict, verdict, callEffect, singleAfter, listAfter, listCodes, effect, concluded, step, run, giveBack, undelivered}
 use Rattle.lists.specs.Book.{bookOf, recordAt, withRecord, withCount, leavesAtZero, takesOne}
 use Rattle.lists.specs.Book.{addsOne, registers, permits, permitsEach, called, leaves, feedAct, partOn, parts}
@@ -28,7 +29,8 @@ unfolding listed paired checked valued permitsEach singleAfter listAfter listCod
     unmarkAll bitOf bytesFrom mapBits
     announces descriptor noPart admitsMark admitsLevel admitsEdge admits admitted items clearsBit clears noticedPage handedBit servingBit handedBytes
     written isRead isWrite isBoth kindOf pprOf ppr ldr tmr registerValue endedAt ended endedLevelAt endedLevel registration writeValue nameable
-    permission requestOf serve callVerdict noticed offerHighest offer present entered emptied handed handBackResult vcpuVerdict verdict callEffect
+    permission requestOf serve callVerdict noticed offerHighest offerWith offer summaryOf inMarked remade
+    present entered emptied handed handBackResult vcpuVerdict verdict callEffect
     effect concluded step
 worked-list =
     record {

@@ -20,11 +20,13 @@ use Rattle.model.specs.Doorbell.{Part, inPart}
 use Rattle.model.specs.Registers.{class, ppr, endedAt, ended}
 use Rattle.model.specs.Ipi.{hits, reach}
 use Rattle.model.specs.Requests.{leaveIf, serve}
-use Rattle.model.specs.Events.{noticed, offerHighest, offer}
+use Rattle.model.specs.Events.{noticed, offerHighest, offerWith, offer}
 use Rattle.lists.specs.Ledger.{tally}
 use Rattle.vector_set.specs.Bits.{one}
 use Rattle.vector_set.specs.Sets.{highest}
-use Rattle.vector_set.proofs.Laws.{clash, highest-has}
+use Rattle.vector_set.specs.Summaries.{inMarked}
+use Rattle.vector_set.proofs.Laws.{clash}
+use Rattle.vector_set.proofs.SummaryLaws.{marked-has}
 use Rattle.model.proofs.ItemLaws.{pending-mark, rest-mark, pending-markAll, rest-markAll}
 
 -- ---- what is pending at a record after each change
@@ -93,30 +95,31 @@ unfoldable pub Offered : Answer → Vcpu → Type 0
 Offered a v = (x : Item) → isItem x (presentedIn a) ≡ true → pending x v ≡ true
 
 pub offer-pending : (iF sh bl : Bool) (v : Vcpu) → Offered (offer iF sh bl v) v
-unfolding offer offerHighest Offered
+unfolding offer offerWith offerHighest Offered
 offer-pending iF sh bl v = first (v .«machine_check») refl
   where
-    above : (a b : Bool) (y : ℕ) → highest (v .irr) ≡ some y → Offered (cond a nothing (cond b (presents (item.Vector y)) (window y))) v
+    above : (a b : Bool) (y : ℕ) → highest (inMarked (v .summary) (v .irr)) ≡ some y → Offered (cond a nothing (cond b (presents (item.Vector y)) (window y))) v
     above true b y e x h = clash (cc)
     above false true y e item.Nmi h = clash (cc)
     above false true y e item.MachineCheck h = clash (cc)
-    above false true y e (item.Vector z) h = rw (eqb-true z y h) (highest-has (v .irr) y e .0)
+    above false true y e (item.Vector z) h = rw (eqb-true z y h) (marked-has (v .summary) (v .irr) y e .0)
     above false false y e x h = clash (cc)
 
-    high : (o : Option ℕ) → highest (v .irr) ≡ o → Offered (offerHighest (iF && not sh) (ppr v) o) v
+    high : (o : Option ℕ) → highest (inMarked (v .summary) (v .irr)) ≡ o → Offered (offerHighest (iF && not sh) (ppr v) o) v
     high none e x h = clash (cc)
     high (some y) e x h = above (leb (class y) (class (ppr v))) (iF && not sh) y e x h
 
-    pick : (a b : Bool) → v .nmi ≡ a → Offered (cond (a && b) (presents item.Nmi) (offerHighest (iF && not sh) (ppr v) (highest (v .irr)))) v
+    pick : (a b : Bool) → v .nmi ≡ a
+        → Offered (cond (a && b) (presents item.Nmi) (offerHighest (iF && not sh) (ppr v) (highest (inMarked (v .summary) (v .irr))))) v
     pick true true e item.Nmi h = e
     pick true true e item.MachineCheck h = clash (cc)
     pick true true e (item.Vector z) h = clash (cc)
-    pick true false e x h = high (highest (v .irr)) refl x h
-    pick false b e x h = high (highest (v .irr)) refl x h
+    pick true false e x h = high (highest (inMarked (v .summary) (v .irr))) refl x h
+    pick false b e x h = high (highest (inMarked (v .summary) (v .irr))) refl x h
 
     first : (a : Bool) → v .«machine_check» ≡ a
         → Offered (cond a (presents item.MachineCheck)
-        (cond (v .nmi && not (sh || bl)) (presents item.Nmi) (offerHighest (iF && not sh) (ppr v) (highest (v .irr))))) v
+        (cond (v .nmi && not (sh || bl)) (presents item.Nmi) (offerHighest (iF && not sh) (ppr v) (highest (inMarked (v .summary) (v .irr)))))) v
     first true e item.Nmi h = clash (cc)
     first true e item.MachineCheck h = e
     first true e (item.Vector z) h = clash (cc)

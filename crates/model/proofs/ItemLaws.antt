@@ -1,18 +1,21 @@
 -- The laws of what is pending, by item: what each change makes pending, and that it leaves all else.
 -- Assumes nothing.
-use mathlib.Core.Path.{_≡_, refl}
-use mathlib.Core.Bool.{Bool, false, not, _&&_, _||_}
+use mathlib.Core.Path.{_≡_, refl, sym, ap, _∙_}
+use mathlib.Core.Bool.{Bool, true, false, not, _&&_, _||_, or-comm}
 use Rattle.model.specs.declared.Item.{Item}
 use Rattle.model.specs.declared.Item.the-variants.{Nmi, MachineCheck, Vector}
 use Rattle.model.specs.declared.Vcpu.{Vcpu}
-use Rattle.model.specs.State.{withIrr, withNmi, withMachineCheck}
+use Prim.Native.Nat.{ℕ}
+use lib.Dec.{eqb}
+use Rattle.model.specs.State.{withIrr, withSummary, withNmi, withMachineCheck}
 use Rattle.model.specs.Items.{InRange, sameItem, pending, mark, unmark, markAll, unmarkAll}
-use Rattle.vector_set.specs.Sets.{has}
-use Rattle.vector_set.proofs.Laws.{has-collect, has-empty, has-insert, has-remove}
+use Rattle.vector_set.specs.Sets.{has, empty}
+use Rattle.vector_set.proofs.Laws.{has-collect}
+use Rattle.vector_set.proofs.SummaryLaws.{remade-none}
 
 -- u is v but for what is pending
 abbrev pub Rest : Vcpu → Vcpu → Type 0
-Rest u v = u ≡ withNmi (u .nmi) (withMachineCheck (u .«machine_check») (withIrr (u .irr) v))
+Rest u v = u ≡ withNmi (u .nmi) (withMachineCheck (u .«machine_check») (withSummary (u .summary) (withIrr (u .irr) v)))
 
 pub pending-mark : (x : Item) → InRange x → (y : Item) (v : Vcpu) → pending x (mark y v) ≡ (sameItem x y || pending x v)
 unfolding mark
@@ -24,7 +27,7 @@ pending-mark MachineCheck r MachineCheck v = refl
 pending-mark (Vector z) r MachineCheck v = refl
 pending-mark Nmi r (Vector y) v = refl
 pending-mark MachineCheck r (Vector y) v = refl
-pending-mark (Vector z) r (Vector y) v = has-insert y (v .irr) z r
+pending-mark (Vector z) r (Vector y) v = has-collect (λ x. eqb x y || has (v .irr) x) z r
 
 pub rest-mark : (y : Item) (v : Vcpu) → Rest (mark y v) v
 unfolding mark
@@ -32,18 +35,28 @@ rest-mark Nmi v = refl
 rest-mark MachineCheck v = refl
 rest-mark (Vector y) v = refl
 
--- P and the marks apart nothing changes
+-- what is left where nothing is pending
+pub unmarkAll-is : (v : Vcpu) → unmarkAll v ≡ withNmi false (withMachineCheck false (withSummary 0 (withIrr empty v)))
+unfolding unmarkAll empty
+unmarkAll-is v = ap (λ (b : ℕ). withNmi false (withMachineCheck false (withSummary b (withIrr empty v)))) (remade-none (v .summary))
+
+-- P, its summary and the marks apart nothing changes
+pub unmarked-rest : (u v : Vcpu) → Rest u v → unmarkAll u ≡ unmarkAll v
+unmarked-rest u v h =
+    ap unmarkAll h ∙ unmarkAll-is (withNmi (u .nmi) (withMachineCheck (u .«machine_check») (withSummary (u .summary) (withIrr (u .irr) v))))
+    ∙ sym (unmarkAll-is v)
+
 pub unmarked-mark : (y : Item) (v : Vcpu) → unmarkAll (mark y v) ≡ unmarkAll v
-unfolding mark unmarkAll
-unmarked-mark Nmi v = refl
-unmarked-mark MachineCheck v = refl
-unmarked-mark (Vector y) v = refl
+unmarked-mark y v = unmarked-rest (mark y v) v (rest-mark y v)
+
+pub rest-unmark : (y : Item) (v : Vcpu) → Rest (unmark y v) v
+unfolding unmark
+rest-unmark Nmi v = refl
+rest-unmark MachineCheck v = refl
+rest-unmark (Vector y) v = refl
 
 pub unmarked-unmark : (y : Item) (v : Vcpu) → unmarkAll (unmark y v) ≡ unmarkAll v
-unfolding unmark unmarkAll
-unmarked-unmark Nmi v = refl
-unmarked-unmark MachineCheck v = refl
-unmarked-unmark (Vector y) v = refl
+unmarked-unmark y v = unmarked-rest (unmark y v) v (rest-unmark y v)
 
 pub pending-unmark : (x : Item) → InRange x → (y : Item) (v : Vcpu) → pending x (unmark y v) ≡ (not (sameItem x y) && pending x v)
 unfolding unmark
@@ -55,13 +68,13 @@ pending-unmark MachineCheck r MachineCheck v = refl
 pending-unmark (Vector z) r MachineCheck v = refl
 pending-unmark Nmi r (Vector y) v = refl
 pending-unmark MachineCheck r (Vector y) v = refl
-pending-unmark (Vector z) r (Vector y) v = has-remove y (v .irr) z r
+pending-unmark (Vector z) r (Vector y) v = has-collect (λ x. not (eqb x y) && has (v .irr) x) z r
 
 pub pending-markAll : (x : Item) → InRange x → (f : Item → Bool) (v : Vcpu) → pending x (markAll f v) ≡ (pending x v || f x)
 unfolding markAll
 pending-markAll Nmi r f v = refl
 pending-markAll MachineCheck r f v = refl
-pending-markAll (Vector z) r f v = has-collect (λ x. has (v .irr) x || f (Vector x)) z r
+pending-markAll (Vector z) r f v = has-collect (λ x. f (Vector x) || has (v .irr) x) z r ∙ or-comm (f (Vector z)) (has (v .irr) z)
 
 pub rest-markAll : (f : Item → Bool) (v : Vcpu) → Rest (markAll f v) v
 unfolding markAll
@@ -71,4 +84,4 @@ pub pending-unmarkAll : (x : Item) → InRange x → (v : Vcpu) → pending x (u
 unfolding unmarkAll
 pending-unmarkAll Nmi r v = refl
 pending-unmarkAll MachineCheck r v = refl
-pending-unmarkAll (Vector z) r v = has-empty z r
+pending-unmarkAll (Vector z) r v = has-collect (λ x. false) z r

@@ -22,3 +22,5 @@ pub mod ReadBack
 pub mod Demand1
 pub mod Demand2
 pub mod Computed
+pub mod Summarised
+pub mod Asked

@@ -6,6 +6,7 @@ use mathlib.Core.Option.{Option, none, some}
 use Prim.Native.Nat.{ℕ}
 use lib.Dec.{leb, eqb}
 use Rattle.vector_set.specs.Sets.{highest}
+use Rattle.vector_set.specs.Summaries.{inMarked}
 use Rattle.vector_set.proofs.Laws.{clash}
 use Rattle.model.specs.declared.InFlight.the-variants as flight
 use Rattle.model.specs.declared.Item.{Item}
@@ -17,7 +18,8 @@ use Rattle.model.specs.Codes.{Answer, nothing, presents, window, done, a
 use Rattle.model.specs.Items.{InRange, hasMark, sameItem, isItem, itemInFlight, flightOf, pending, mark, unmark, unmarkAll}
 use Rattle.model.specs.Registers.{class, ppr}
 use Rattle.model.specs.Requests.{forget}
-use Rattle.model.specs.Events.{entry, nonDelivery, handBack, at, Bytes, offerHighest, offer, present, entered, giveBack, undelivered, emptied}
+use Rattle.model.specs.Events.{entry, nonDelivery, handBack, at, Bytes, offerHighest, offerWith, offer, present, entered}
+use Rattle.model.specs.Events.{giveBack, undelivered, emptied}
 use Rattle.model.specs.Events.{effect, concluded, step, next}
 use Rattle.model.proofs.Stored.{on-put, stored-at, vcpuAt-count, by-verdict, known-of}
 use Rattle.model.proofs.ItemLaws.{pending-mark, pending-unmark, pending-unmarkAll}
@@ -52,7 +54,7 @@ pending-undelivered x r (some y) v = pending-giveBack x r y v
 
 -- ---- an entry
 check-offered : (iF sh bl : Bool) (v : Vcpu) → isItem MachineCheck (presentedIn (offer iF sh bl v)) ≡ v .«machine_check»
-unfolding offer offerHighest
+unfolding offer offerWith offerHighest
 check-offered iF sh bl v = first (v .«machine_check»)
   where
     over : (a b : Bool) (x : ℕ) → isItem MachineCheck (presentedIn (cond a nothing (cond b (presents (Vector x)) (window x)))) ≡ false
@@ -64,13 +66,14 @@ check-offered iF sh bl v = first (v .«machine_check»)
     high none = refl
     high (some x) = over (leb (class x) (class (ppr v))) (iF && not sh) x
 
-    second : (b : Bool) → isItem MachineCheck (presentedIn (cond b (presents Nmi) (offerHighest (iF && not sh) (ppr v) (highest (v .irr))))) ≡ false
+    second : (b : Bool)
+        → isItem MachineCheck (presentedIn (cond b (presents Nmi) (offerHighest (iF && not sh) (ppr v) (highest (inMarked (v .summary) (v .irr)))))) ≡ false
     second true = refl
-    second false = high (highest (v .irr))
+    second false = high (highest (inMarked (v .summary) (v .irr)))
 
     first : (b : Bool)
         → isItem MachineCheck (presentedIn (cond b (presents MachineCheck)
-        (cond (v .nmi && not (sh || bl)) (presents Nmi) (offerHighest (iF && not sh) (ppr v) (highest (v .irr)))))) ≡ b
+        (cond (v .nmi && not (sh || bl)) (presents Nmi) (offerHighest (iF && not sh) (ppr v) (highest (inMarked (v .summary) (v .irr))))))) ≡ b
     first true = refl
     first false = second (v .nmi && not (sh || bl))
 

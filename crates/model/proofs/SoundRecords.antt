@@ -26,11 +26,13 @@ use Rattle.model.specs.Doorbell.{Part, isLevel, inPart, admitted}
 use Rattle.model.specs.Registers.{ppr, class, endedAt, ended}
 use Rattle.model.specs.Ipi.{icrItem}
 use Rattle.model.specs.Requests.{mayName, nameable, requestOf, forget, leaveIf, serve}
-use Rattle.model.specs.Events.{Act, notice, call, entry, nonDelivery, handBack, allow, Bytes, noticed, offerHighest, offer, present}
+use Rattle.model.specs.Events.{Act, notice, call, entry, nonDelivery, handBack, allow, Bytes, noticed, offerHighest, offerWith, offer, present}
 use Rattle.model.specs.Events.{entered, giveBack, undelivered, emptied, Reply, gives, sends, callEffect, effect}
 use Rattle.model.specs.Reached.{Levelled, Sound}
 use Rattle.vector_set.specs.Sets.{Words, has, empty, insert, remove, highest}
-use Rattle.vector_set.proofs.Laws.{clash, has-empty, has-insert, has-remove, words-empty, words-insert, words-remove, highest-has}
+use Rattle.vector_set.specs.Summaries.{inMarked}
+use Rattle.vector_set.proofs.Laws.{clash, has-empty, has-insert, has-remove, words-empty, words-insert, words-remove}
+use Rattle.vector_set.proofs.SummaryLaws.{marked-has}
 use Rattle.model.proofs.Stored.{servedIn}
 use Rattle.model.proofs.Allowed.{admitted-fits}
 use Rattle.model.proofs.LevelledLaws.{levelled, levelled-empty, levelled-low, levelled-remove, levelled-insert, levelled-gains}
@@ -50,8 +52,8 @@ sound-noticed l p v h =
       words = h .words;
       nameable = h .nameable;
       irr =
-          levelled (λ x. has (v .irr) x || inPart (item.Vector x) a) (λ x. has (v .«irr_level») x || isLevel (a .level) x)
-          (λ x l. rw (h .irr .vectors x l, low x l))
+          levelled (λ x. inPart (item.Vector x) a || has (v .irr) x) (λ x. has (v .«irr_level») x || isLevel (a .level) x)
+          (λ x l. rw (low x l, h .irr .vectors x l))
           (λ x l. sub (has (v .«irr_level») x) (has (a .edge) x) (isLevel (a .level) x) (h .irr .within x l));
       isr = h .isr;
       inService = h .inService;
@@ -68,13 +70,13 @@ sound-noticed l p v h =
         pick true q = let z = q refl in absurd (let f : ⊥ = omega arith in f)
         pick false q = refl
 
-    sub : (d e b : Bool) {c : Bool} → (d ≡ true → c ≡ true) → (d || b) ≡ true → (c || (e || b)) ≡ true
-    sub true e b h p = rw (h refl)
-    sub false e b {c} h p = rw (p, or-true e) (or-true c)
+    sub : (d e b : Bool) {c : Bool} → (d ≡ true → c ≡ true) → (d || b) ≡ true → ((e || b) || c) ≡ true
+    sub true e b h p = rw (h refl) (or-true (e || b))
+    sub false e b {c} h p = rw (p, or-true e)
 
 -- ---- what a call does to a record
 pub sound-mark : (y : Item) (v : Vcpu) → IsVector y → Sound v → Sound (mark y v)
-unfolding mark
+unfolding mark insert
 sound-mark item.Nmi v q h =
     record { words = h .words; nameable = h .nameable; irr = h .irr; isr = h .isr; inService = h .inService; inactive = h .inactive }
 sound-mark item.MachineCheck v q h =
@@ -148,31 +150,31 @@ Shown (presents (item.Vector x)) = (31 ≤ x) × (x < 256)
 Shown (window x) = Unit {0}
 
 shown-offer : (iF sh bl : Bool) (v : Vcpu) → Sound v → Shown (offer iF sh bl v)
-unfolding offer offerHighest
+unfolding offer offerWith offerHighest
 shown-offer iF sh bl v h = first (v .«machine_check»)
   where
-    over : (a b : Bool) (x : ℕ) → highest (v .irr) ≡ some x → Shown (cond a nothing (cond b (presents (item.Vector x)) (window x)))
+    over : (a b : Bool) (x : ℕ) → highest (inMarked (v .summary) (v .irr)) ≡ some x → Shown (cond a nothing (cond b (presents (item.Vector x)) (window x)))
     over true b x e = tt
     over false false x e = tt
-    over false true x e = (levelled-low (v .irr) _ (h .irr) x (highest-has (v .irr) x e .0), highest-has (v .irr) x e .1)
+    over false true x e = (levelled-low (v .irr) _ (h .irr) x (marked-has (v .summary) (v .irr) x e .0), marked-has (v .summary) (v .irr) x e .1)
 
-    high : (o : Option ℕ) → highest (v .irr) ≡ o → Shown (offerHighest (iF && not sh) (ppr v) o)
+    high : (o : Option ℕ) → highest (inMarked (v .summary) (v .irr)) ≡ o → Shown (offerHighest (iF && not sh) (ppr v) o)
     high none e = tt
     high (some x) e = over (leb (class x) (class (ppr v))) (iF && not sh) x e
 
-    pick : (b : Bool) → Shown (cond b (presents item.Nmi) (offerHighest (iF && not sh) (ppr v) (highest (v .irr))))
+    pick : (b : Bool) → Shown (cond b (presents item.Nmi) (offerHighest (iF && not sh) (ppr v) (highest (inMarked (v .summary) (v .irr)))))
     pick true = tt
-    pick false = high (highest (v .irr)) refl
+    pick false = high (highest (inMarked (v .summary) (v .irr))) refl
 
     first : (b : Bool)
         → Shown (cond b (presents item.MachineCheck)
-        (cond (v .nmi && not (sh || bl)) (presents item.Nmi) (offerHighest (iF && not sh) (ppr v) (highest (v .irr)))))
+        (cond (v .nmi && not (sh || bl)) (presents item.Nmi) (offerHighest (iF && not sh) (ppr v) (highest (inMarked (v .summary) (v .irr))))))
     first true = tt
     first false = pick (v .nmi && not (sh || bl))
 
 -- on an active vCPU
 sound-entered : (a : Answer) (v : Vcpu) → Shown a → isActive (v .phase) ≡ true → Sound v → Sound (entered a (forget v))
-unfolding entered present unmark
+unfolding entered present unmark remove
 sound-entered nothing v q on h = sound-forget v h
 sound-entered (presents item.Nmi) v q on h =
     record { words = h .words; nameable = h .nameable; irr = h .irr; isr = h .isr; inService = λ x e. clash (cc); inactive = λ e. clash (cc) }
@@ -204,7 +206,7 @@ returned-flying v h = go (v .flight) refl
     go (flight.Vector x) e = levelled-low (v .isr) _ (h .isr) x (h .inService x e)
 
 sound-undelivered : (o : Option Item) (v : Vcpu) → Returned o → Sound v → Sound (undelivered o v)
-unfolding undelivered giveBack mark
+unfolding undelivered giveBack mark insert
 sound-undelivered none v q h = sound-forget v h
 sound-undelivered (some item.Nmi) v q h = at-rest _ (h .words) (h .nameable) (h .irr) (h .isr) refl
 sound-undelivered (some item.MachineCheck) v q h = at-rest _ (h .words) (h .nameable) (h .irr) (h .isr) refl
@@ -222,7 +224,7 @@ not-active Left e = refl
 
 -- of a leaving vCPU
 sound-emptied : (v : Vcpu) → isLeaving (v .phase) ≡ true → Sound v → Sound (emptied v)
-unfolding emptied unmarkAll
+unfolding emptied unmarkAll empty
 sound-emptied v on h = at-rest _ words-empty none-named levelled-empty levelled-empty (h .inactive (not-active (v .phase) on))
 
 -- ---- what an accepted event gives

@@ -11,7 +11,8 @@ use Rattle.model.specs.declared.Vcpu.{Vcpu}
 use Rattle.model.specs.declared.Module.{Module}
 use Rattle.vector_set.specs.Sets.{empty, full, insert}
 use Rattle.model.specs.Items.{isVectorItem}
-use Rattle.model.specs.State.{vcpuAt, start, withVcpu, withAllowed, withIrr, withIsr, withTpr, withPhase}
+use Rattle.model.specs.State.{vcpuAt, start, withVcpu, withAllowed, withIrr, withSummary, withIsr, withTpr, withPhase}
+use Rattle.vector_set.specs.Summaries.{summaryOf}
 use Rattle.model.specs.Codes.{Answer, nothing, presents, window, Result, done, counted, answers, coded, refused}
 use Rattle.model.specs.Events.{notice, call, entry, handBack, at, Event, Out, step, next}
 
@@ -91,6 +92,10 @@ record0 = vcpuAt fresh2 0
 abbrev pub singleton : ℕ → List ℕ
 singleton v = insert v empty
 
+-- a record with this P, and a summary that is true of it
+abbrev pub withPending : List ℕ → Vcpu → Vcpu
+withPending s v = withSummary (summaryOf s) (withIrr s v)
+
 abbrev pub zeros : List ℕ
 zeros = replicate 256 0
 
@@ -116,13 +121,13 @@ abbrev pub level61 : Module
 level61 = onPage (singleton 0x61) (set (set announcing 64 0x61) 65 0x04) .after
 
 abbrev pub pending41 : ℕ → Module
-pending41 tpr = having (withTpr tpr (withIrr (singleton 0x41) record0))
+pending41 tpr = having (withTpr tpr (withPending (singleton 0x41) record0))
 
 abbrev pub serving41 : ℕ → Module
 serving41 tpr = having (withTpr tpr (withIsr (singleton 0x41) record0))
 
 abbrev pub handedOver : Out
-handedOver = step (having (withPhase Leaving (withIrr (singleton 0x41) record0))) (at 0 (handBack zeros true false))
+handedOver = step (having (withPhase Leaving (withPending (singleton 0x41) record0))) (at 0 (handBack zeros true false))
 
 -- ---- the list
 unfoldable pub cases : List Bool

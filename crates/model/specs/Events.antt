@@ -1,6 +1,6 @@
 -- The events, and what each gives from every module value (sections 4 to 11).
 -- Assumes nothing.
-use mathlib.Core.Bool.{Bool, cond, not, _&&_, _||_}
+use mathlib.Core.Bool.{Bool, true, false, cond, not, _&&_, _||_}
 use mathlib.Core.List.{List, [], _∷_, _++_}
 use mathlib.Core.Option.{Option, none, some, Option·getD}
 use Prim.Native.Nat.{ℕ, _+_, _*_}
@@ -21,7 +21,7 @@ use Rattle.model.specs.declared.Entered.{Entered}
 use Rattle.model.specs.State.{isActive, isLeaving, isInFlight, size, vcpuAt, mayStart, start, withVcpu, withRegistrations}
 use Rattle.model.specs.State.{withAllowed, withIsr, withIrrLevel, withIsrLevel, withIcr, withPhase, withFlight}
 use Rattle.model.specs.Codes.{codeOf, Verdict, accept, refuse, need, verdictCode, Answer, nothing, presents, window}
-use Rattle.model.specs.Codes.{Result, done, counted, answers, coded, refused, resultOf, admissionResult, presentedResult, listResult}
+use Rattle.model.specs.Codes.{Result, done, counted, answers, coded, refused, presentedBy, resultOf, admissionResult, presentedResult, listResult}
 use Rattle.model.specs.Items.{itemCount, itemInFlight, flightOf, pending, mark, unmark, markAll, unmarkAll}
 use Rattle.model.specs.Doorbell.{longEnough, Part, isLevel, inPart, admitted, noticedPage, handedBytes, written}
 use Rattle.model.specs.Registers.{class, ppr}
@@ -29,6 +29,7 @@ use Rattle.model.specs.Ipi.{icrItem, icrTarget, sent, newBits}
 use Rattle.model.specs.Requests.{requestOf, forget, serve, callVerdict}
 use Rattle.vector_set.specs.Bits.{one}
 use Rattle.vector_set.specs.Sets.{has, collect, empty, insert, remove, highest}
+use Rattle.vector_set.specs.Summaries.{inMarked}
 
 -- ---- events: an act on a vCPU
 -- P is what is known of what is lent to be written, a page or a second list: its bytes or entries in an event, its length in what the book is fed
@@ -85,16 +86,20 @@ itemsNew a v = itemCount (λ x. inPart x a && not (pending x v))
 unfoldable pub itemsMerged : Part → Vcpu → ℕ
 itemsMerged a v = itemCount (λ x. inPart x a && pending x v)
 
--- what an entry answers for the highest pending vector. The first argument: IF holds and shadow does not; the second: PPR (8.8, 8.9, 8.11, 8.13)
+-- what an entry answers for the pending vector that it found. The first argument: IF holds and shadow does not; the second: PPR (8.8, 8.9, 8.11, 8.13)
 unfoldable pub offerHighest : Bool → ℕ → Option ℕ → Answer
 offerHighest ready p none = nothing
 offerHighest ready p (some x) = cond (leb (class x) (class p)) nothing (cond ready (presents (Vector x)) (window x))
 
--- what an entry answers: the machine check before all else, the NMI before any vector (8.6, 8.7, 8.10, 8.16 to 8.18)
+-- what an entry answers where o is the pending vector that it finds, if it finds one: the machine check before all else, the NMI before any vector
+-- (8.6, 8.7, 8.10, 8.16 to 8.18)
+unfoldable pub offerWith : Option ℕ → Bool → Bool → Bool → Vcpu → Answer
+offerWith o iF sh bl v =
+    cond (v .«machine_check») (presents MachineCheck) (cond (v .nmi && not (sh || bl)) (presents Nmi) (offerHighest (iF && not sh) (ppr v) o))
+
+-- what an entry answers: of P it looks at the marked words alone (8.20)
 unfoldable pub offer : Bool → Bool → Bool → Vcpu → Answer
-offer iF sh bl v =
-    cond (v .«machine_check») (presents MachineCheck)
-    (cond (v .nmi && not (sh || bl)) (presents Nmi) (offerHighest (iF && not sh) (ppr v) (highest (v .irr))))
+offer iF sh bl v = offerWith (highest (inMarked (v .summary) (v .irr))) iF sh bl v
 
 -- the set t, with x if the set s has x
 abbrev pub gains : ℕ → List ℕ → List ℕ → List ℕ
@@ -279,6 +284,16 @@ step m e = decided (verdict m e) m e
 
 abbrev pub next : Module → Event → Module
 next m e = step m e .after
+
+-- ---- the question
+abbrev pub isSome : Option Item → Bool
+isSome none = false
+isSome (some y) = true
+
+-- would an entry of the vCPU i, with IF and without shadow and NMI-blocked, present anything? It is asked of the entry itself; one that is refused
+-- presents nothing (8.21 to 8.23)
+unfoldable pub wouldPresent : Module → ℕ → Bool
+wouldPresent m i = isSome (presentedBy (step m (at i (entry true false false)) .result))
 
 -- ---- start
 -- what start answers (3.2, 3.5)

@@ -1,6 +1,6 @@
 -- Items: the NMI, the machine check and the vectors. What is pending at a record is asked and changed by item (section 2).
 -- Assumes nothing.
-use mathlib.Core.Bool.{Bool, true, false, _||_}
+use mathlib.Core.Bool.{Bool, true, false, not, _&&_, _||_}
 use mathlib.Core.List.{List}
 use mathlib.Core.Option.{Option, none, some}
 use Prim.Native.Nat.{ℕ, _+_, _<_, _≤_}
@@ -10,9 +10,10 @@ use Rattle.model.specs.declared.InFlight.the-variants as flight
 use Rattle.model.specs.declared.Item.{Item}
 use Rattle.model.specs.declared.Item.the-variants.{Nmi, MachineCheck, Vector}
 use Rattle.model.specs.declared.Vcpu.{Vcpu}
-use Rattle.model.specs.State.{withIrr, withNmi, withMachineCheck}
+use Rattle.model.specs.State.{withIrr, withSummary, withNmi, withMachineCheck}
 use Rattle.vector_set.specs.Bits.{one}
-use Rattle.vector_set.specs.Sets.{has, collect, empty, insert, remove, count}
+use Rattle.vector_set.specs.Sets.{has, collect, count}
+use Rattle.vector_set.specs.Summaries.{remade}
 
 -- a vector is below 256
 abbrev pub InRange : Item → Type 0
@@ -95,24 +96,32 @@ pendingIn (Vector v) nmi mc irr = has irr v
 abbrev pub pending : Item → Vcpu → Bool
 pending x v = pendingIn x (v .nmi) (v .«machine_check») (v .irr)
 
+-- P once each vector of f is pending or, where b is false, is not; the others stay
+abbrev pub irrAfter : Bool → (ℕ → Bool) → List ℕ → List ℕ
+irrAfter true f s = collect (λ v. f v || has s v)
+irrAfter false f s = collect (λ v. not (f v) && has s v)
+
+-- the record with this P. Every change of P is made here, and the summary with it: anew for the words in which f has a vector (2.21)
+abbrev pub putIrr : Bool → (ℕ → Bool) → Vcpu → Vcpu
+putIrr b f v = withSummary (remade f (irrAfter b f (v .irr)) (v .summary)) (withIrr (irrAfter b f (v .irr)) v)
+
 -- the item becomes pending, as edge (4.27, 7.17, 7.24, 9.9)
 unfoldable pub mark : Item → Vcpu → Vcpu
 mark Nmi v = withNmi true v
 mark MachineCheck v = withMachineCheck true v
-mark (Vector x) v = withIrr (insert x (v .irr)) v
+mark (Vector x) v = putIrr true (λ y. eqb y x) v
 
 -- it is pending no more (8.6, 8.11, 8.17)
 unfoldable pub unmark : Item → Vcpu → Vcpu
 unmark Nmi v = withNmi false v
 unmark MachineCheck v = withMachineCheck false v
-unmark (Vector x) v = withIrr (remove x (v .irr)) v
+unmark (Vector x) v = putIrr false (λ y. eqb y x) v
 
 -- every item of f becomes pending (4.25, 4.28, 4.42)
 unfoldable pub markAll : (Item → Bool) → Vcpu → Vcpu
 markAll f v =
-    withNmi (v .nmi || f Nmi)
-    (withMachineCheck (v .«machine_check» || f MachineCheck) (withIrr (collect (λ x. has (v .irr) x || f (Vector x))) v))
+    withNmi (v .nmi || f Nmi) (withMachineCheck (v .«machine_check» || f MachineCheck) (putIrr true (λ x. f (Vector x)) v))
 
--- nothing is pending any more (10.13)
+-- nothing is pending any more (10.13, 10.18)
 unfoldable pub unmarkAll : Vcpu → Vcpu
-unmarkAll v = withNmi false (withMachineCheck false (withIrr empty v))
+unmarkAll v = withNmi false (withMachineCheck false (putIrr false (λ x. true) v))

@@ -14,3 +14,5 @@ pub mod Cases
 pub mod Worked
 pub mod WorkedChecks
 pub mod WorkedValues
+pub mod SummaryClaims
+pub mod WorkedSummaries

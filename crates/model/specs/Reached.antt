@@ -9,6 +9,7 @@ use Rattle.model.specs.declared.Vcpu.{Vcpu}
 use Rattle.model.specs.State.{isActive}
 use Rattle.model.specs.Requests.{mayName}
 use Rattle.vector_set.specs.Sets.{Words, has}
+use Rattle.vector_set.specs.Summaries.{summaryOf}
 
 -- a set of vectors 31 to 255 and its level-sensitive part; eight words of 32 bits have no member above 255 (13.13)
 pub record Levelled (s t : List ℕ) : Type 0 where
@@ -16,6 +17,10 @@ pub record Levelled (s t : List ℕ) : Type 0 where
   pub level-words : Words t
   pub vectors : (x : ℕ) → x < 31 → has s x ≡ false
   pub within : (x : ℕ) → x < 256 → has t x ≡ true → has s x ≡ true
+
+-- the summary is true of P (2.19, 13.76)
+abbrev pub Summarised : Vcpu → Type 0
+Summarised v = v .summary ≡ summaryOf (v .irr)
 
 -- what holds of each record (13.13 to 13.16)
 pub record Sound (v : Vcpu) : Type 0 where

@@ -33,10 +33,10 @@ isInFlight Nmi = true
 isInFlight MachineCheck = true
 isInFlight (Vector v) = true
 
--- ---- a record by its fields: A, P, S, PL, SL, the marks of the NMI and of the machine check, TPR, ICR, the phase, what is in flight
--- the record with these fields (2.3, 2.8 to 2.12, 2.16)
-abbrev pub vcpu : List ℕ → List ℕ → List ℕ → List ℕ → List ℕ → Bool → Bool → ℕ → ℕ → Phase → InFlight → Vcpu
-vcpu a p s pl sl nmi mc tpr icr ph fl =
+-- ---- a record by its fields: A, P, S, PL, SL, the marks of the NMI and of the machine check, TPR, ICR, the phase, what is in flight, the summary of P
+-- the record with these fields (2.3, 2.8 to 2.12, 2.16, 2.19)
+abbrev pub vcpu : List ℕ → List ℕ → List ℕ → List ℕ → List ℕ → Bool → Bool → ℕ → ℕ → Phase → InFlight → ℕ → Vcpu
+vcpu a p s pl sl nmi mc tpr icr ph fl sm =
     record {
       allowed = a;
       irr = p;
@@ -49,11 +49,12 @@ vcpu a p s pl sl nmi mc tpr icr ph fl =
       icr = icr;
       phase = ph;
       flight = fl;
+      summary = sm;
     }
 
 -- a record with nothing in it, in a phase (3.4)
 unfoldable pub bare : Phase → Vcpu
-bare p = vcpu empty empty empty empty empty false false 0 0 p Nothing
+bare p = vcpu empty empty empty empty empty false false 0 0 p Nothing 0
 
 -- a fresh record (3.3, 3.4)
 abbrev pub fresh : Vcpu
@@ -65,37 +66,40 @@ absent = bare Left
 
 -- a record with one field changed
 abbrev pub withAllowed : List ℕ → Vcpu → Vcpu
-withAllowed x v = vcpu x (v .irr) (v .isr) (v .«irr_level») (v .«isr_level») (v .nmi) (v .«machine_check») (v .tpr) (v .icr) (v .phase) (v .flight)
+withAllowed x v = vcpu x (v .irr) (v .isr) (v .«irr_level») (v .«isr_level») (v .nmi) (v .«machine_check») (v .tpr) (v .icr) (v .phase) (v .flight) (v .summary)
 
 abbrev pub withIrr : List ℕ → Vcpu → Vcpu
-withIrr x v = vcpu (v .allowed) x (v .isr) (v .«irr_level») (v .«isr_level») (v .nmi) (v .«machine_check») (v .tpr) (v .icr) (v .phase) (v .flight)
+withIrr x v = vcpu (v .allowed) x (v .isr) (v .«irr_level») (v .«isr_level») (v .nmi) (v .«machine_check») (v .tpr) (v .icr) (v .phase) (v .flight) (v .summary)
 
 abbrev pub withIsr : List ℕ → Vcpu → Vcpu
-withIsr x v = vcpu (v .allowed) (v .irr) x (v .«irr_level») (v .«isr_level») (v .nmi) (v .«machine_check») (v .tpr) (v .icr) (v .phase) (v .flight)
+withIsr x v = vcpu (v .allowed) (v .irr) x (v .«irr_level») (v .«isr_level») (v .nmi) (v .«machine_check») (v .tpr) (v .icr) (v .phase) (v .flight) (v .summary)
 
 abbrev pub withIrrLevel : List ℕ → Vcpu → Vcpu
-withIrrLevel x v = vcpu (v .allowed) (v .irr) (v .isr) x (v .«isr_level») (v .nmi) (v .«machine_check») (v .tpr) (v .icr) (v .phase) (v .flight)
+withIrrLevel x v = vcpu (v .allowed) (v .irr) (v .isr) x (v .«isr_level») (v .nmi) (v .«machine_check») (v .tpr) (v .icr) (v .phase) (v .flight) (v .summary)
 
 abbrev pub withIsrLevel : List ℕ → Vcpu → Vcpu
-withIsrLevel x v = vcpu (v .allowed) (v .irr) (v .isr) (v .«irr_level») x (v .nmi) (v .«machine_check») (v .tpr) (v .icr) (v .phase) (v .flight)
+withIsrLevel x v = vcpu (v .allowed) (v .irr) (v .isr) (v .«irr_level») x (v .nmi) (v .«machine_check») (v .tpr) (v .icr) (v .phase) (v .flight) (v .summary)
 
 abbrev pub withNmi : Bool → Vcpu → Vcpu
-withNmi x v = vcpu (v .allowed) (v .irr) (v .isr) (v .«irr_level») (v .«isr_level») x (v .«machine_check») (v .tpr) (v .icr) (v .phase) (v .flight)
+withNmi x v = vcpu (v .allowed) (v .irr) (v .isr) (v .«irr_level») (v .«isr_level») x (v .«machine_check») (v .tpr) (v .icr) (v .phase) (v .flight) (v .summary)
 
 abbrev pub withMachineCheck : Bool → Vcpu → Vcpu
-withMachineCheck x v = vcpu (v .allowed) (v .irr) (v .isr) (v .«irr_level») (v .«isr_level») (v .nmi) x (v .tpr) (v .icr) (v .phase) (v .flight)
+withMachineCheck x v = vcpu (v .allowed) (v .irr) (v .isr) (v .«irr_level») (v .«isr_level») (v .nmi) x (v .tpr) (v .icr) (v .phase) (v .flight) (v .summary)
 
 abbrev pub withTpr : ℕ → Vcpu → Vcpu
-withTpr x v = vcpu (v .allowed) (v .irr) (v .isr) (v .«irr_level») (v .«isr_level») (v .nmi) (v .«machine_check») x (v .icr) (v .phase) (v .flight)
+withTpr x v = vcpu (v .allowed) (v .irr) (v .isr) (v .«irr_level») (v .«isr_level») (v .nmi) (v .«machine_check») x (v .icr) (v .phase) (v .flight) (v .summary)
 
 abbrev pub withIcr : ℕ → Vcpu → Vcpu
-withIcr x v = vcpu (v .allowed) (v .irr) (v .isr) (v .«irr_level») (v .«isr_level») (v .nmi) (v .«machine_check») (v .tpr) x (v .phase) (v .flight)
+withIcr x v = vcpu (v .allowed) (v .irr) (v .isr) (v .«irr_level») (v .«isr_level») (v .nmi) (v .«machine_check») (v .tpr) x (v .phase) (v .flight) (v .summary)
 
 abbrev pub withPhase : Phase → Vcpu → Vcpu
-withPhase x v = vcpu (v .allowed) (v .irr) (v .isr) (v .«irr_level») (v .«isr_level») (v .nmi) (v .«machine_check») (v .tpr) (v .icr) x (v .flight)
+withPhase x v = vcpu (v .allowed) (v .irr) (v .isr) (v .«irr_level») (v .«isr_level») (v .nmi) (v .«machine_check») (v .tpr) (v .icr) x (v .flight) (v .summary)
 
 abbrev pub withFlight : InFlight → Vcpu → Vcpu
-withFlight x v = vcpu (v .allowed) (v .irr) (v .isr) (v .«irr_level») (v .«isr_level») (v .nmi) (v .«machine_check») (v .tpr) (v .icr) (v .phase) x
+withFlight x v = vcpu (v .allowed) (v .irr) (v .isr) (v .«irr_level») (v .«isr_level») (v .nmi) (v .«machine_check») (v .tpr) (v .icr) (v .phase) x (v .summary)
+
+abbrev pub withSummary : ℕ → Vcpu → Vcpu
+withSummary x v = vcpu (v .allowed) (v .irr) (v .isr) (v .«irr_level») (v .«isr_level») (v .nmi) (v .«machine_check») (v .tpr) (v .icr) (v .phase) (v .flight) x
 
 -- ---- the module
 -- how many vCPUs a module value with this n and L is answered for: none where n is over 32 or L is not 1 to 3 (2.15)

@@ -14,7 +14,7 @@ use Rattle.model.specs.declared.Vcpu.{Vcpu}
 use Rattle.model.specs.declared.Module.{Module}
 use Rattle.vector_set.specs.Sets.{empty, full, insert}
 use Rattle.model.specs.Items.{sameItem}
-use Rattle.model.specs.State.{vcpuAt, start, withVcpu, withAllowed, withIrr, withIsr, withIrrLevel, withIsrLevel, withNmi, withMachineCheck}
+use Rattle.model.specs.State.{vcpuAt, start, withVcpu, withAllowed, withIsr, withIrrLevel, withIsrLevel, withNmi, withMachineCheck}
 use Rattle.model.specs.State.{withTpr, withPhase}
 use Rattle.model.specs.Codes.{Answer, nothing, presents, window, Result, done, counted, answers, coded, refused}
 use Rattle.model.specs.Registers.{kindOf}
@@ -22,7 +22,7 @@ use Rattle.model.specs.Causes.{isKindNone, isKindRead, isKindWrite}
 use Rattle.model.specs.declared.Kind.{Kind}
 use Rattle.vector_set.specs.Bits.{one}
 use Rattle.model.specs.Events.{notice, call, entry, nonDelivery, handBack, at, Event, Out, step, next}
-use Rattle.model.specs.Cases.{sameNumbers, gives, counts, isRefused, isNothing, fresh2, having, record0, singleton}
+use Rattle.model.specs.Cases.{sameNumbers, gives, counts, isRefused, isNothing, fresh2, having, record0, singleton, withPending}
 use Rattle.model.specs.Cases.{zeros, announcing, byte64, onPage, resultOn, level61, pending41, every, Starred}
 
 -- ---- what the cases use
@@ -43,7 +43,8 @@ mixed =
     withPhase Leaving
     (withTpr 0x20
     (withNmi true
-    (withIsrLevel (singleton 0x33) (withIsr (insert 0x33 (singleton 0x52)) (withIrrLevel (singleton 0x61) (withIrr (insert 0x61 (singleton 0x41)) record0))))))
+    (withIsrLevel (singleton 0x33)
+    (withIsr (insert 0x33 (singleton 0x52)) (withIrrLevel (singleton 0x61) (withPending (insert 0x61 (singleton 0x41)) record0))))))
 
 abbrev nested : Module
 nested = having (withIsrLevel (singleton 0x41) (withIsr (insert 0x61 (singleton 0x41)) record0))
@@ -91,7 +92,7 @@ abbrev pub enters : Bool → Bool → Bool → Event
 enters iF sh bl = at 0 (entry iF sh bl)
 
 abbrev nmi41 : Module
-nmi41 = having (withNmi true (withIrr (singleton 0x41) record0))
+nmi41 = having (withNmi true (withPending (singleton 0x41) record0))
 
 -- vCPU 0 sends the item y by x to vCPU 1: it is reached and given the item, and the ICR reads as it was written
 abbrev arrives : Item → ℕ → Bool
@@ -151,15 +152,15 @@ abbrev level61Page : List ℕ
 level61Page = set (set announcing 64 0x61) 65 0x04
 
 abbrev pending61 : Vcpu
-pending61 = withIrr (singleton 0x61) record0
+pending61 = withPending (singleton 0x61) record0
 
 -- both vCPUs, with 0x41 and the NMI pending at vCPU 1 alone
 abbrev at1 : Module
-at1 = withVcpu fresh2 1 (withNmi true (withIrr (singleton 0x41) record0))
+at1 = withVcpu fresh2 1 (withNmi true (withPending (singleton 0x41) record0))
 
 -- vCPU 0 with 0x41 in flight and 0x42 pending
 abbrev merged42 : Module
-merged42 = having (withIrr (singleton 0x42) (vcpuAt shown41 0))
+merged42 = having (withPending (singleton 0x42) (vcpuAt shown41 0))
 
 -- an ICR write by vCPU 31
 abbrev icr31 : ℕ → Event
@@ -195,7 +196,7 @@ further =
     ∷ reads 1 0x819 (withIsrLevel (singleton 0xFF) (withIrrLevel (singleton 0x20) record0))
     ∷ reads 0x80000000 0x81F (withIsrLevel (singleton 0xFF) (withIrrLevel (singleton 0x20) record0))
     ∷ reads 0 0x818 (withIsrLevel (singleton 0xFF) (withIrrLevel (singleton 0x20) record0))
-    ∷ reads 1 0x827 (withIrr (singleton 0xE0) record0)
+    ∷ reads 1 0x827 (withPending (singleton 0xE0) record0)
     -- 14.28: values that the ICR does not take
     ∷ refuses 0x5041
     ∷ refuses 0x6041
@@ -301,15 +302,15 @@ further =
     -- 14.49: an ICR write forgets what an entry presented
     ∷ isRefused 4 (resultOn (next shown41 (icr 0x100004041)) (at 0 nonDelivery))
     -- 14.50: a superfluous notice, and one that announces nothing
-    ∷ counts 0 1 (told (withIrr (singleton 0x41) record0) byte64 .result)
-    ∷ sameNumbers (irrOf (told (withIrr (singleton 0x41) record0) byte64 .after) 0) (singleton 0x41)
-    ∷ sameNumbers (told (withIrr (singleton 0x41) record0) byte64 .page) zeros
-    ∷ counts 0 0 (told (withIrr (singleton 0x41) record0) (set byte64 3 0) .result)
+    ∷ counts 0 1 (told (withPending (singleton 0x41) record0) byte64 .result)
+    ∷ sameNumbers (irrOf (told (withPending (singleton 0x41) record0) byte64 .after) 0) (singleton 0x41)
+    ∷ sameNumbers (told (withPending (singleton 0x41) record0) byte64 .page) zeros
+    ∷ counts 0 0 (told (withPending (singleton 0x41) record0) (set byte64 3 0) .result)
     -- 14.51: a notice of three items, of which none, two, the NMI alone and all are pending
     ∷ counts 3 0 (told record0 many .result)
-    ∷ counts 1 2 (told (withNmi true (withIrr (singleton 0x41) record0)) many .result)
+    ∷ counts 1 2 (told (withNmi true (withPending (singleton 0x41) record0)) many .result)
     ∷ counts 2 1 (told (withNmi true record0) many .result)
-    ∷ counts 0 3 (told (withNmi true (withIrr (insert 0x52 (singleton 0x41)) record0)) many .result)
+    ∷ counts 0 3 (told (withNmi true (withPending (insert 0x52 (singleton 0x41)) record0)) many .result)
     -- 14.52: a level-sensitive request for what is pending as edge, the other way round, and both at once
     ∷ counts 0 1 (told pending61 level61Page .result)
     ∷ sameNumbers (vcpuAt (told pending61 level61Page .after) 0 .«irr_level») (singleton 0x61)
@@ -340,8 +341,8 @@ further =
     ∷ isRefused 4 (resultOn (next merged42 (at 0 (call 3 0x83F 0x42))) (at 0 nonDelivery))
     -- 14.56: the most that a notice admits, where nothing is pending and where everything is; what it does not name stays pending
     ∷ counts 227 0 (told record0 ones .result)
-    ∷ counts 0 227 (told (withNmi true (withMachineCheck true (withIrr full record0))) ones .result)
-    ∷ sameNumbers (irrOf (told (withIrr (singleton 0x52) record0) byte64 .after) 0) (insert 0x52 (singleton 0x41))
+    ∷ counts 0 227 (told (withNmi true (withMachineCheck true (withPending full record0))) ones .result)
+    ∷ sameNumbers (irrOf (told (withPending (singleton 0x52) record0) byte64 .after) 0) (insert 0x52 (singleton 0x41))
     ∷ (vcpuAt (told (withNmi true record0) byte64 .after) 0 .nmi)
     -- 14.57: 32 vCPUs, and the last of them
     ∷ gives 0xFFFFFFFF (resultOn (start 32 1) (icr31 0x84041))

@@ -14,11 +14,11 @@ use Rattle.model.specs.declared.Item.the-variants as item
 use Rattle.model.specs.declared.Vcpu.{Vcpu}
 use Rattle.model.specs.declared.Module.{Module}
 use Rattle.vector_set.specs.Sets.{empty, full, remove}
-use Rattle.model.specs.State.{vcpuAt, withIrr, withIsr, withNmi, withMachineCheck, withTpr, withPhase}
+use Rattle.model.specs.State.{vcpuAt, withIsr, withNmi, withMachineCheck, withTpr, withPhase}
 use Rattle.model.specs.Codes.{presentedResult}
 use Rattle.model.specs.Items.{InRange, hasMark, pending}
 use Rattle.model.specs.Events.{notice, call, nonDelivery, handBack, at, Event, next}
-use Rattle.model.specs.Cases.{sameNumbers, gives, counts, isRefused, fresh2, having, record0, singleton}
+use Rattle.model.specs.Cases.{sameNumbers, gives, counts, isRefused, fresh2, having, record0, singleton, withPending}
 use Rattle.model.specs.Cases.{zeros, announcing, onPage, resultOn, every}
 use Rattle.model.specs.Worked.{pageAfter, eoi, icr, reads, isShown, answersBy, enters, told, irrOf}
 
@@ -136,9 +136,9 @@ checks =
     ∷ (marked item.Nmi (next busy held) && not (marked item.MachineCheck (next busy held)))
     ∷ shows item.Nmi (next busy held) free
     ∷ shows item.MachineCheck busy free
-    ∷ shows item.MachineCheck (having (withIrr (singleton 0x41) checked)) (enters false false false)
-    ∷ shows item.MachineCheck (having (withIrr (singleton 0x1F) checked)) free
-    ∷ shows (item.Vector 0x1F) (next (having (withIrr (singleton 0x1F) checked)) free) free
+    ∷ shows item.MachineCheck (having (withPending (singleton 0x41) checked)) (enters false false false)
+    ∷ shows item.MachineCheck (having (withPending (singleton 0x1F) checked)) free
+    ∷ shows (item.Vector 0x1F) (next (having (withPending (singleton 0x1F) checked)) free) free
     -- 14.64: returned and presented again; forgotten by a call
     ∷ gives 0 (resultOn (next busy held) (at 0 nonDelivery))
     ∷ shows item.MachineCheck (next (next busy held) (at 0 nonDelivery)) held
@@ -147,7 +147,7 @@ checks =
     ∷ gives 65537 (resultOn goes back)
     ∷ sameNumbers (pageAfter goes back) (set zeros 65 0x02)
     ∷ not (marked item.MachineCheck (next goes back))
-    ∷ sameNumbers (pageAfter (having (withPhase Leaving (withNmi true (withIrr (singleton 0x41) checked)))) back) (set (set zeros 65 0x43) 72 0x02)
+    ∷ sameNumbers (pageAfter (having (withPhase Leaving (withNmi true (withPending (singleton 0x41) checked)))) back) (set (set zeros 65 0x43) 72 0x02)
     -- 14.66: call 4
     ∷ allows 0x112
     ∷ allows 0x12

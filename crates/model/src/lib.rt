@@ -39,6 +39,8 @@ pub struct Vcpu {
     pub icr: u64,
     pub phase: Phase,
     pub flight: InFlight,
+    // Bit k says that word k of P, vectors 32k to 32k + 31, is not 0.
+    pub summary: u8,
 }
 
 // The module for one guest VMPL. No event reads or writes the records at n and above.

@@ -1,7 +1,7 @@
-// Entry and non-delivery by value: the module goes in and comes back; a step of one record does the work.
+// Entry and non-delivery by value: the module goes in and comes back; a step of one record does the work. The question takes it and gives its answer.
 ghost use mathlib.Core.Path.{_≡_};
 ghost use mathlib.Core.List.{[]};
-ghost use Rattle.model.specs.Events.{Act, at, step, outOf, enteredOut};
+ghost use Rattle.model.specs.Events.{Act, at, step, outOf, enteredOut, wouldPresent};
 use model::Entered;
 use model::Module;
 use model::Presentation;
@@ -46,4 +46,15 @@ pub fn non_delivery(m: Module, vcpu: u32) -> Stepped
     let mut after = m;
     after.vcpus[i] = w;
     Stepped { outcome, after }
+}
+
+// Whether an entry with IF and without shadow and NMI-blocked would present anything (8.21 to 8.23).
+pub fn would_present(m: Module, vcpu: u32) -> bool
+    ensures { λ r. ⌜ r ≡ wouldPresent m vcpu ⌝ }
+{
+    if gate::lacks(m.n, m.vmpl, vcpu) {
+        return false;
+    }
+    let v = m.vcpus[vcpu as usize];
+    vcpu_entries::would_present_vcpu(v)
 }

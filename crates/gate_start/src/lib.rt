@@ -29,6 +29,7 @@ fn bare(phase: Phase) -> Vcpu
         icr: 0,
         phase,
         flight: InFlight::Nothing,
+        summary: 0,
     }
 }
 

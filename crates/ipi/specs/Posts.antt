@@ -8,9 +8,9 @@ use lib.ListN.{getD, set}
 use Rattle.model.specs.declared.Item.{Item}
 use Rattle.model.specs.declared.Item.the-variants.{Nmi, MachineCheck, Vector}
 use Rattle.model.specs.declared.Vcpu.{Vcpu}
-use Rattle.model.specs.State.{withIrr, withNmi, withMachineCheck}
+use Rattle.model.specs.State.{withIrr, withSummary, withNmi, withMachineCheck}
 use Rattle.model.specs.Items.{mark}
-use Rattle.vector_set.specs.Bits.{one}
+use Rattle.vector_set.specs.Bits.{one, bits}
 use Rattle.ipi.specs.declared.Posting.{Posting}
 use Rattle.ipi.specs.declared.Counts.{Counts}
 
@@ -20,9 +20,13 @@ postingOf Nmi = record { nmi = true; «machine_check» = false; word = 0; bits =
 postingOf MachineCheck = record { nmi = false; «machine_check» = true; word = 0; bits = 0 }
 postingOf (Vector v) = record { nmi = false; «machine_check» = false; word = v / 32; bits = 2 ^ (v % 32) }
 
--- a record with the posting's bits in its word, and with its marks
+-- the summary of what it adds to the IRR: its word's bit, where it has bits (2.21)
+unfoldable pub summaryIn : Posting → ℕ
+summaryIn p = bits (λ k. eqb k (p .word) && not (eqb (p .bits) 0)) 0 8
+
+-- a record with the posting's bits in its word, which is marked then, and with its marks
 abbrev pub wordIn : Posting → Vcpu → Vcpu
-wordIn p v = withIrr (set (v .irr) (p .word) (bitOr (getD (v .irr) (p .word) 0) (p .bits))) v
+wordIn p v = withSummary (bitOr (v .summary) (summaryIn p)) (withIrr (set (v .irr) (p .word) (bitOr (getD (v .irr) (p .word) 0) (p .bits))) v)
 
 abbrev pub markIn : Posting → Vcpu → Vcpu
 markIn p v = withNmi (v .nmi || p .nmi) v

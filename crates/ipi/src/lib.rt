@@ -6,7 +6,7 @@ ghost use lib.Dec.{eqb};
 ghost use Rattle.vector_set.specs.Bits.{bitAt, bits};
 ghost use Rattle.model.specs.State.{isActive};
 ghost use Rattle.model.specs.Ipi.{icrTarget, hits};
-ghost use Rattle.ipi.specs.Posts.{postingOf, countsOf, isNew};
+ghost use Rattle.ipi.specs.Posts.{postingOf, summaryIn, countsOf, isNew};
 use model::Item;
 use model::Phase;
 use model::Target;
@@ -98,6 +98,19 @@ pub fn posting_of(item: Item) -> Posting
             bits: 1 << (v % 32) as u32,
         },
     }
+}
+
+// The summary of the vectors that a posting adds: the bit of its word, where it has one there (2.21).
+pub fn summary_of(posting: Posting) -> u8
+    ensures { λ r. ⌜ r ≡ summaryIn posting ⌝ }
+{
+    if posting.bits == 0 {
+        return 0;
+    }
+    if 8 <= posting.word {
+        return 0;
+    }
+    1 << posting.word
 }
 
 // How many items of a posting become pending at a record whose word and marks were these, and how many were pending (4.29, 4.37).

@@ -5,8 +5,9 @@ use Prim.Native.Nat.{ℕ, _+_}
 use lib.Bits.{bitOr}
 use lib.ListN.{getD, set}
 use Rattle.vector_set.specs.Sets.{union, difference, intersection, count}
+use Rattle.vector_set.specs.Summaries.{summaryOf}
 use Rattle.model.specs.declared.Vcpu.{Vcpu}
-use Rattle.model.specs.State.{withIrr, withIrrLevel}
+use Rattle.model.specs.State.{withIrr, withSummary, withIrrLevel}
 use Rattle.ipi.specs.declared.Counts.{Counts}
 use Rattle.ipi.specs.declared.Posting.{Posting}
 use Rattle.ipi.specs.Posts.{posted}
@@ -18,9 +19,9 @@ levelIn p l v = withIrrLevel (set (v .«irr_level») (p .word) (bitOr (getD (v .
 abbrev pub requestAdded : Posting → ℕ → Vcpu → Vcpu
 requestAdded p l v = levelIn p l (posted p v)
 
--- the record with the vectors of e pending
+-- the record with the vectors of e pending, and their words marked
 abbrev pub marksAdded : List ℕ → Vcpu → Vcpu
-marksAdded e v = withIrr (union (v .irr) e) v
+marksAdded e v = withSummary (bitOr (v .summary) (summaryOf e)) (withIrr (union (v .irr) e) v)
 
 -- the vectors of e counted too, where those of s were pending
 unfoldable pub marksCounted : Counts → List ℕ → List ℕ → Counts

@@ -15,6 +15,7 @@ pub fn post(v: Vcpu, posting: Posting) -> Vcpu
     let k = posting.word;
     let mut w = v;
     w.irr[k] = w.irr[k] | posting.bits;
+    w.summary = w.summary | ipi::summary_of(posting);
     w.nmi = w.nmi | posting.nmi;
     w.machine_check = w.machine_check | posting.machine_check;
     w

@@ -1,6 +1,8 @@
 // What a notice adds to a record, and what it counts.
 ghost use mathlib.Core.Path.{_≡_};
 ghost use Prim.Native.Nat.{_<_};
+ghost use lib.Bits.{bitOr};
+ghost use Rattle.vector_set.specs.Summaries.{summaryOf};
 ghost use Rattle.ipi.specs.Posts.{countsOf};
 ghost use Rattle.vcpu.specs.Notices.{requestAdded, marksAdded, marksCounted};
 use crate::items;
@@ -19,6 +21,13 @@ pub fn add_request(v: Vcpu, posting: Posting, level: u32) -> Vcpu
     w
 }
 
+// The summary of P once the marked vectors are added (2.21).
+pub fn mark_words(summary: u8, edge: [u32; 8]) -> u8
+    ensures { λ r. ⌜ r ≡ bitOr summary (summaryOf edge) ⌝ }
+{
+    summary | vector_set_search::summary_of(edge)
+}
+
 // The record with the marked vectors (4.28).
 pub fn add_marks(v: Vcpu, edge: [u32; 8]) -> Vcpu
     ensures { λ r. ⌜ r ≡ marksAdded edge v ⌝ }
@@ -27,6 +36,7 @@ pub fn add_marks(v: Vcpu, edge: [u32; 8]) -> Vcpu
     let pending = vector_set_algebra::union(irr, edge);
     let mut w = v;
     w.irr = pending;
+    w.summary = mark_words(v.summary, edge);
     w
 }
 

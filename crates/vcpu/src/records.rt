@@ -28,6 +28,7 @@ fn written_anew(v: Vcpu, phase: Phase, flight: InFlight) -> Vcpu
         icr: v.icr,
         phase,
         flight,
+        summary: v.summary,
     }
 }
 

@@ -1,2 +1,5 @@
+pub mod Moves
 pub mod Sets
 pub mod Told
+pub mod Answered
+pub mod Asked

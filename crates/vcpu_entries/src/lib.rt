@@ -1,12 +1,14 @@
 // Entry and non-delivery on one record.
 ghost use mathlib.Core.Path.{_≡_};
 ghost use mathlib.Core.Option.{some};
-ghost use Rattle.model.specs.Codes.{Answer, Result, presentedResult};
+ghost use mathlib.Core.Bool.{true, false};
+ghost use Rattle.model.specs.Codes.{Answer, presentedResult, presentedBy};
 ghost use Rattle.model.specs.Items.{itemInFlight};
 ghost use Rattle.model.specs.Requests.{forget};
-ghost use Rattle.vector_set.specs.Sets.{highest};
-ghost use Rattle.model.specs.Registers.{ppr};
-ghost use Rattle.model.specs.Events.{Act, offerHighest, offer, entered, undelivered, gains, vcpuVerdict};
+ghost use lib.Dec.{eqb};
+ghost use Rattle.vector_set.specs.Summaries.{remade};
+ghost use Rattle.model.specs.Events.{Act, offer, entered, undelivered, gains, vcpuVerdict, isSome};
+ghost use Rattle.vcpu_stages.specs.Stages.{answeredOn};
 ghost use Rattle.vcpu.specs.Records.{entryOn, nonDeliveryOn, steppedOut, enteredVcpu};
 use model::InFlight;
 use model::Item;
@@ -18,7 +20,6 @@ use model::Vcpu;
 use vcpu::VcpuEntered;
 use vcpu::VcpuStepped;
 use vcpu::records;
-use vector_set::Found;
 
 // The set t, with x if s has x.
 fn gain(x: u8, s: [u32; 8], t: [u32; 8]) -> [u32; 8]
@@ -30,37 +31,12 @@ fn gain(x: u8, s: [u32; 8], t: [u32; 8]) -> [u32; 8]
     t
 }
 
-// The highest pending vector, where it is above the processor priority (8.8 to 8.13).
-fn offer_vector(v: Vcpu, ready: bool) -> Presentation
-    ensures { λ r. ⌜ presentedResult r ≡ Result.answers (offerHighest ready (ppr v) (highest (v .irr))) ⌝ }
+// The summary of P once the vector x has come or gone and P is irr (2.21).
+fn summary_after(summary: u8, irr: [u32; 8], x: u8) -> u8
+    ensures { λ r. ⌜ r ≡ remade (λ y. eqb y x) irr summary ⌝ }
 {
-    let irr = v.irr;
-    let isr = v.isr;
-    let found = vector_set_search::highest_of(irr).found;
-    let Found::Vector(vector) = found else {
-        return Presentation::Nothing;
-    };
-    let priority = apic::ppr(v.tpr, isr);
-    if vector / 16 <= priority / 16 {
-        return Presentation::Nothing;
-    }
-    if ready {
-        return Presentation::Vector(vector);
-    }
-    Presentation::Window(vector)
-}
-
-// What an entry offers the guest: the machine check before all else, which nothing holds back (8.6 to 8.13, 8.17, 8.18).
-fn offer_of(v: Vcpu, iflag: bool, shadow: bool, blocked: bool) -> Presentation
-    ensures { λ r. ⌜ presentedResult r ≡ Result.answers (offer iflag shadow blocked v) ⌝ }
-{
-    if v.machine_check {
-        return Presentation::MachineCheck;
-    }
-    if v.nmi && !shadow && !blocked {
-        return Presentation::Nmi;
-    }
-    offer_vector(v, iflag && !shadow)
+    let k = (x / 32) as usize;
+    vector_set_search::with_word(summary, k, irr[k])
 }
 
 // The NMI is marked no more, and is in flight (8.6, 8.14).
@@ -95,31 +71,51 @@ fn present_vector(v: Vcpu, x: u8) -> Vcpu
     let service_level = gain(x, irr_level, isr_level);
     let mut w = v;
     w.irr = pending;
+    w.summary = summary_after(v.summary, pending, x);
     w.isr = service;
     w.irr_level = pending_level;
     w.isr_level = service_level;
     records::with_flight(w, InFlight::Vector(x))
 }
 
+// What an entry on one record answers: one that is not active is refused (8.2, 8.6 to 8.13, 8.17, 8.18, 8.20).
+pub fn answer_of(v: Vcpu, iflag: bool, shadow: bool, blocked: bool) -> Presentation
+    ensures { λ r. ⌜ presentedResult r ≡ answeredOn (vcpuVerdict 0 0 v (Act.entry iflag shadow blocked)) (offer iflag shadow blocked v) ⌝ }
+{
+    let before = vcpu_stages::answers::answer_before(v, shadow, blocked);
+    let Presentation::Nothing = before else {
+        return before;
+    };
+    let found = vcpu_stages::answers::candidate(v);
+    vcpu_stages::answers::answer_to(found, v, iflag & !shadow)
+}
+
 // An entry on one record: what was in flight is forgotten, and what is presented is in flight (8.2 to 8.14, 8.17 to 8.19).
 pub fn entry_vcpu(v: Vcpu, iflag: bool, shadow: bool, blocked: bool) -> VcpuEntered
     ensures { λ r. ⌜ enteredVcpu r ≡ entryOn (vcpuVerdict 0 0 v (Act.entry iflag shadow blocked)) (offer iflag shadow blocked v) v ⌝ }
 {
-    let phase = v.phase;
-    let Phase::Active = phase else {
-        return VcpuEntered {
-            presentation: Presentation::Refused(Refusal::NotActive),
-            vcpu: v,
-        };
-    };
-    let presentation = offer_of(v, iflag, shadow, blocked);
+    let presentation = answer_of(v, iflag, shadow, blocked);
     let vcpu = match presentation {
         Presentation::Nmi => present_nmi(v),
         Presentation::MachineCheck => present_machine_check(v),
         Presentation::Vector(x) => present_vector(v, x),
+        Presentation::Refused(_) => v,
         _ => records::with_flight(v, InFlight::Nothing),
     };
     VcpuEntered { presentation, vcpu }
+}
+
+// Whether an entry with IF and without shadow and NMI-blocked would present anything (8.21 to 8.23).
+pub fn would_present_vcpu(v: Vcpu) -> bool
+    ensures { λ r. ⌜ r ≡ isSome (presentedBy (answeredOn (vcpuVerdict 0 0 v (Act.entry true false false)) (offer true false false v))) ⌝ }
+{
+    let presentation = answer_of(v, true, false, false);
+    match presentation {
+        Presentation::Nmi => true,
+        Presentation::MachineCheck => true,
+        Presentation::Vector(_) => true,
+        _ => false,
+    }
 }
 
 // The vector moves back from the ISR to the IRR, its level mark with it (9.4 to 9.7).
@@ -136,6 +132,7 @@ fn return_vector(v: Vcpu, x: u8) -> Vcpu
     let service_level = vector_set::remove(isr_level, x);
     let mut w = v;
     w.irr = pending;
+    w.summary = summary_after(v.summary, pending, x);
     w.isr = service;
     w.irr_level = pending_level;
     w.isr_level = service_level;

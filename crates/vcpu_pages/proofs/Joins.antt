@@ -1,6 +1,6 @@
 -- A word of a set with at most one more vector in it, and what is counted of that vector and of further ones. Assumes nothing.
 use mathlib.Core.Path.{_≡_, refl, sym, ap, ap₂, _∙_}
-use mathlib.Core.Bool.{Bool, true, false, cond, not, _&&_, _||_, and-true, and-false, or-false, or-comm}
+use mathlib.Core.Bool.{Bool, true, false, cond, not, _&&_, _||_, and-true, and-false, or-assoc, or-comm}
 use mathlib.Core.List.{List}
 use Prim.Native.Nat.{ℕ, _+_, _/_, _%_, _^_, _<_}
 use native.Mathlib.Omega.{arith}
@@ -19,7 +19,7 @@ use Rattle.ipi.specs.Posts.{countsOf}
 use Rattle.ipi.proofs.Singles.{single-meets, single-adds, none-meets, none-adds}
 
 -- ---- Bool answers: p a further vector, q the one vector, r pending before
-new-apart : (p q r : Bool) → (p && q) ≡ false → one ((p || q) && not r) ≡ one (p && not (r || q)) + one (q && not r)
+new-apart : (p q r : Bool) → (p && q) ≡ false → one ((p || q) && not r) ≡ one (p && not (q || r)) + one (q && not r)
 new-apart true true r e = clash (ap one (sym e))
 new-apart true false true e = refl
 new-apart true false false e = refl
@@ -27,7 +27,7 @@ new-apart false true true e = refl
 new-apart false true false e = refl
 new-apart false false r e = refl
 
-merged-apart : (p q r : Bool) → (p && q) ≡ false → one ((p || q) && r) ≡ one (p && (r || q)) + one (q && r)
+merged-apart : (p q r : Bool) → (p && q) ≡ false → one ((p || q) && r) ≡ one (p && (q || r)) + one (q && r)
 merged-apart true true r e = clash (ap one (sym e))
 merged-apart true false true e = refl
 merged-apart true false false e = refl
@@ -48,15 +48,14 @@ module _ (s : List ℕ) (ws : Words s) (x : ℕ) (small : x < 256) where
   wider t = set s (x / 32) (bitOr (getD s (x / 32) 0) (cond t (2 ^ (x % 32)) 0))
 
   -- g says which vector that is
-  pub wider-is : (t : Bool) (g : ℕ → Bool) → ((y : ℕ) → y < 256 → g y ≡ (t && eqb y x)) → wider t ≡ collect (λ y. has s y || g y)
+  pub wider-is : (t : Bool) (g : ℕ → Bool) → ((y : ℕ) → y < 256 → g y ≡ (t && eqb y x)) → wider t ≡ collect (λ y. g y || has s y)
   unfolding insert
   wider-is true g h =
       ap (λ (b : ℕ). set s (x / 32) (bitOr (getD s (x / 32) 0) b)) (sym (one-shl (x % 32) (omega arith))) ∙ insert-word s x ws small
-      ∙ collect-ext (λ y. eqb y x || has s y) (λ y. has s y || g y)
-      (λ y l. or-comm (eqb y x) (has s y) ∙ ap (λ (b : Bool). has s y || b) (sym (h y l)))
+      ∙ collect-ext (λ y. eqb y x || has s y) (λ y. g y || has s y) (λ y l. ap (λ (b : Bool). b || has s y) (sym (h y l)))
   wider-is false g h =
       ap (set s (x / 32)) (or-zero-r (getD s (x / 32) 0)) ∙ set-getD s (x / 32) 0
-      ∙ collect-is (λ y. has s y || g y) s ws (λ y l. sym (ap (λ (b : Bool). has s y || b) (h y l) ∙ or-false (has s y)))
+      ∙ collect-is (λ y. g y || has s y) s ws (λ y l. sym (ap (λ (b : Bool). b || has s y) (h y l)))
 
   -- what a posting of it and of these counts
   pub counts-are : (t n m b c : Bool)
@@ -80,20 +79,16 @@ module _ (s : List ℕ) (ws : Words s) (x : ℕ) (small : x < 256) where
         ∙ ap one (has-collect (λ y. g y && f (has s y)) x small
         ∙ ap (λ (b : Bool). b && f (has s x)) (h x small ∙ ap (λ (b : Bool). t && b) (eq-eqb x x refl) ∙ and-true t))
 
-    has-wider : (y : ℕ) → y < 256 → has (wider t) y ≡ (has s y || g y)
-    has-wider y l = ap (λ (z : List ℕ). has z y) (wider-is t g h) ∙ has-collect (λ y. has s y || g y) y l
+    has-wider : (y : ℕ) → y < 256 → has (wider t) y ≡ (g y || has s y)
+    has-wider y l = ap (λ (z : List ℕ). has z y) (wider-is t g h) ∙ has-collect (λ y. g y || has s y) y l
 
     -- ---- with the vectors of e, of which it is none
     module _ (e : List ℕ) (apart : (y : ℕ) → y < 256 → (has e y && g y) ≡ false) where
-      pub union-is : union (wider t) e ≡ collect (λ y. has s y || (has e y || g y))
+      pub union-is : union (wider t) e ≡ collect (λ y. has e y || g y || has s y)
       unfolding union
       union-is =
-          collect-ext (λ y. has (wider t) y || has e y) (λ y. has s y || (has e y || g y))
-          (λ y l. ap (λ (b : Bool). b || has e y) (has-wider y l) ∙ turn (has s y) (g y) (has e y))
-        where
-          turn : (a b c : Bool) → (a || b || c) ≡ (a || (c || b))
-          turn true b c = refl
-          turn false b c = or-comm b c
+          collect-ext (λ y. has (wider t) y || has e y) (λ y. has e y || g y || has s y)
+          (λ y l. ap (λ (b : Bool). b || has e y) (has-wider y l) ∙ or-comm (g y || has s y) (has e y) ∙ sym (or-assoc (has e y) (g y) (has s y)))
 
       pub more-new : one (t && not (has s x)) + count (difference e (wider t)) ≡ count (collect (λ y. (has e y || g y) && not (has s y)))
       more-new =

@@ -3,15 +3,17 @@ use mathlib.Core.Path.{_≡_, refl, sym, ap, ap₂, _∙_}
 use mathlib.Core.Bool.{Bool, true, false, cond}
 use mathlib.Core.List.{List}
 use Prim.Native.Nat.{ℕ, _<_, _≤_}
+use lib.Bits.{bitOr}
 use lib.ListN.{length}
 use borrow.Author.Tests.{leb-true}
 use Rattle.vector_set.specs.Bits.{one}
 use Rattle.vector_set.specs.Sets.{collect, union}
-use Rattle.vector_set.proofs.Laws.{Words, clash}
+use Rattle.vector_set.specs.Summaries.{summaryOf}
+use Rattle.vector_set.proofs.Laws.{clash}
 use Rattle.model.specs.declared.Refusal.{Refusal}
 use Rattle.model.specs.declared.Refusal.the-variants.{NotActive, ShortPage}
 use Rattle.model.specs.declared.Vcpu.{Vcpu}
-use Rattle.model.specs.State.{isActive, withIrr}
+use Rattle.model.specs.State.{isActive, withIrr, withSummary}
 use Rattle.model.specs.Doorbell.{bitOf, manyBit, announces, descriptor, longEnough, noPart, admitsEdge, admits, admitted, noticedPage}
 use Rattle.model.specs.Events.{noticed, itemsNew}
 use Rattle.model.specs.Codes.{Verdict, accept, refuse, need, counted, admissionResult}
@@ -23,7 +25,7 @@ use Rattle.vcpu.specs.Notices.{marksCounted}
 use Rattle.vcpu.specs.Records.{VcpuOut, noticeOn, pageOn}
 use Rattle.vcpu_pages.specs.declared.NoticeTaken.{NoticeTaken}
 use Rattle.vcpu_pages.specs.Pages.{pageVerdict, noticeVerdict, unchanged, takeOn}
-use Rattle.vcpu_pages.proofs.Adds.{added, counts, many-of, one-is, many-is, none-is}
+use Rattle.vcpu_pages.proofs.Adds.{Fits, added, counts, many-of, one-is, many-is, none-is}
 
 -- two verdicts differ
 refused-not : {c : Refusal} → refuse c ≡ accept → ⊥
@@ -105,11 +107,11 @@ module _ (l : ℕ) (v : Vcpu) (p : List ℕ) where
   unfolding admitted pageOn
   gives-asked g e n f h = (rw (e, n) f, rw e h)
 
-  unannounced : Words (v .irr) → Words (v .«irr_level») → announces l p ≡ false
+  unannounced : Fits v → announces l p ≡ false
       → _≡_ {A = VcpuOut} (record { result = counted 0 0; vcpu = v }) (noticeOn accept (admitted l (v .allowed) p) v)
   unfolding admitted noticeOn
-  unannounced wi wl n =
-      let z = none-is v wi wl in
+  unannounced fit n =
+      let z = none-is v fit in
       rw n
       (ap₂ (λ (a : ℕ) (u : Vcpu). record { result = counted a 0; vcpu = u }) (z .1) (z .0)
       ∙ ap (λ (b : ℕ). record { result = counted (itemsNew noPart v) b; vcpu = noticed noPart v }) (z .2))
@@ -125,13 +127,13 @@ module _ (l : ℕ) (v : Vcpu) (p : List ℕ) where
     abbrev answered : VcpuOut
     answered = record { result = admissionResult (r .admission); vcpu = v }
 
-    module _ (wi : Words (v .irr)) (wl : Words (v .«irr_level»)) where
+    module _ (fit : Fits v) where
       kept-accepted : (b : Bool) → announces l p ≡ b → r ≡ takeOn accept (announcement l (v .allowed) p q r b) → q ≡ takenPage l p → r .changes ≡ false
           → GivesBy accept answered q
       unfolding takeOn pageOn
       kept-accepted true n e f k = clash (ap one (sym k ∙ ap (λ (s : NoticeTaken). s .changes) e))
       kept-accepted false n e f k = (
-        ap (λ (s : NoticeTaken). record { result = admissionResult (s .admission); vcpu = v }) e ∙ unannounced wi wl n,
+        ap (λ (s : NoticeTaken). record { result = admissionResult (s .admission); vcpu = v }) e ∙ unannounced fit n,
         f ∙ page-still l p n,
       )
 
@@ -151,11 +153,11 @@ module _ (l : ℕ) (v : Vcpu) (p : List ℕ) where
       many-bit : (b : Bool) → r .requested .many ≡ b → bitOf (descriptor l p) manyBit ≡ b
       many-bit b f = many-of (v .allowed) (descriptor l p) (r .requested) (here .request) b f
 
-      pub record-one : Words (v .irr) → Words (v .«irr_level») → r .requested .many ≡ false → (c : Counts) → c ≡ counts v (r .requested)
+      pub record-one : Fits v → r .requested .many ≡ false → (c : Counts) → c ≡ counts v (r .requested)
           → Gives (changed c (added v (r .requested))) q
       unfolding noticeOn
-      record-one wi wl f c e =
-          let z = one-is (v .allowed) (descriptor l p) v wi wl (r .requested) (here .request) (w .1) f in
+      record-one fit f c e =
+          let z = one-is (v .allowed) (descriptor l p) v fit (r .requested) (here .request) (w .1) f in
           gives-asked (noticeVerdict (v .phase) p) (here .accepts) (here .announcing) (ap₂ changed (e ∙ z .1) (z .0))
           (here .left ∙ page-now l p (many-bit false f))
 
@@ -169,12 +171,14 @@ module _ (l : ℕ) (v : Vcpu) (p : List ℕ) where
         still-asks =
             rw same-page (long-enough (isActive (v .phase)) NotActive p (here .accepts), here .announcing, many-bit true f, here .request)
 
-        pub record-many : Words (v .irr) → Words (v .«irr_level») → (e z : List ℕ) → e ≡ collect (admitsEdge (v .allowed) (descriptor l q))
+        pub record-many : Fits v → (e z : List ℕ) → e ≡ collect (admitsEdge (v .allowed) (descriptor l q))
             → z ≡ noticedPage l q → (c : Counts) → c ≡ marksCounted (counts v (r .requested)) e (added v (r .requested) .irr)
-            → (s : List ℕ) → s ≡ union (added v (r .requested) .irr) e → Gives (changed c (withIrr s (added v (r .requested)))) z
+            → (s : List ℕ) → s ≡ union (added v (r .requested) .irr) e
+            → (x : ℕ) → x ≡ bitOr (added v (r .requested) .summary) (summaryOf e) → Gives (changed c (withSummary x (withIrr s (added v (r .requested))))) z
         unfolding noticeOn
-        record-many wi wl e z g h c k s j =
+        record-many fit e z g h c k s j x u =
             let d = g ∙ ap (λ (y : List ℕ). collect (admitsEdge (v .allowed) (descriptor l y))) same-page in
-            let y = many-is (v .allowed) (descriptor l p) v wi wl (r .requested) (here .request) (w .1) f e d in
+            let y = many-is (v .allowed) (descriptor l p) v fit (r .requested) (here .request) (w .1) f e d in
             gives-asked (noticeVerdict (v .phase) p) (here .accepts) (here .announcing)
-            (ap₂ changed (k ∙ y .1) (ap (λ (x : List ℕ). withIrr x (added v (r .requested))) j ∙ y .0)) (h ∙ ap (noticedPage l) same-page)
+            (ap₂ changed (k ∙ y .1) (ap₂ (λ (s : List ℕ) (x : ℕ). withSummary x (withIrr s (added v (r .requested)))) j u ∙ y .0))
+            (h ∙ ap (noticedPage l) same-page)

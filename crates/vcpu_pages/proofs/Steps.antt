@@ -4,14 +4,15 @@ use mathlib.Core.Path.{_≡_, sym, ap, ap₂, _∙_}
 use mathlib.Core.Bool.{Bool, true, false}
 use mathlib.Core.List.{List}
 use Prim.Native.Nat.{ℕ, _<_, _≤_}
+use lib.Bits.{bitOr}
 use lib.ListN.{length}
 use Rattle.vector_set.specs.Sets.{collect, union}
-use Rattle.vector_set.proofs.Laws.{Words}
+use Rattle.vector_set.specs.Summaries.{summaryOf}
 use Rattle.model.specs.declared.Admission.the-variants.{Items}
 use Rattle.model.specs.declared.Outcome.{Outcome}
 use Rattle.model.specs.declared.Vcpu.{Vcpu}
 use Rattle.model.specs.declared.Module.{Module}
-use Rattle.model.specs.State.{size, vcpuAt, withVcpu, withIrr}
+use Rattle.model.specs.State.{size, vcpuAt, withVcpu, withIrr, withSummary}
 use Rattle.model.specs.Doorbell.{bitOf, manyBit, announces, descriptor, admitsEdge, admitted, noticedPage, written}
 use Rattle.model.specs.Codes.{resultOf, admissionResult, accepted}
 use Rattle.model.specs.Events.{notice, handBack, at, vcpuVerdict, emptied, handed, handBackResult, step, outOf, noticedOut}
@@ -20,7 +21,7 @@ use Rattle.descriptor.specs.Requests.{requestedIn}
 use Rattle.doorbell.specs.Takes.{takenFrom, takenPage}
 use Rattle.vcpu_pages.specs.declared.NoticeTaken.{NoticeTaken}
 use Rattle.vcpu_pages.specs.Pages.{noticeVerdict, handBackVerdict, takeOn, handOn}
-use Rattle.vcpu_pages.proofs.Adds.{added, counts}
+use Rattle.vcpu_pages.proofs.Adds.{Fits, added, counts}
 use Rattle.vcpu_pages.proofs.NoticeLaws.{record-kept, record-one, still-asks, record-many}
 use Rattle.vcpu_pages.proofs.PagesLaws.{hand-back-refused, hand-back-accepted}
 use Rattle.vcpu.specs.Notices.{marksCounted}
@@ -55,18 +56,18 @@ module _ (m : Module) (i : ℕ) (h : i < size m) (v : Vcpu) (here : v ≡ vcpuAt
       × (q ≡ pageOn (noticeVerdict (v .phase) p) (takenPage (m .vmpl) p) p)
 
   module _ (p q : List ℕ) (r : NoticeTaken) (w : Takes p r q) where
-    pub notice-kept : r .changes ≡ false → Words (v .irr) → Words (v .«irr_level»)
+    pub notice-kept : r .changes ≡ false → Fits v
         → noticedOut (record { admission = r .admission; after = m }) q ≡ step m (at i (notice p))
     unfolding vcpuVerdict
-    notice-kept f wi wl =
-        let z = record-kept (m .vmpl) v p q r wi wl w f in
+    notice-kept f fit =
+        let z = record-kept (m .vmpl) v p q r fit w f in
         kept m i h v here (admissionResult (r .admission)) q ∙ noticed-on p q _ (z .0) (z .1)
 
-    pub notice-one : r .changes ≡ true → r .requested .many ≡ false → Words (v .irr) → Words (v .«irr_level»)
+    pub notice-one : r .changes ≡ true → r .requested .many ≡ false → Fits v
         → (c : Counts) → c ≡ counts v (r .requested)
         → noticedOut (record { admission = Items (c .new) (c .merged); after = withVcpu m i (added v (r .requested)) }) q ≡ step m (at i (notice p))
     unfolding vcpuVerdict
-    notice-one t f wi wl c e = let z = record-one (m .vmpl) v p q r w t wi wl f c e in noticed-on p q _ (z .0) (z .1)
+    notice-one t f fit c e = let z = record-one (m .vmpl) v p q r w t fit f c e in noticed-on p q _ (z .0) (z .1)
 
     pub marks-asked : r .changes ≡ true → r .requested .many ≡ true
         → (256 ≤ length q) × (1 ≤ m .vmpl) × (m .vmpl ≤ 3) × (announces (m .vmpl) q ≡ true)
@@ -76,15 +77,15 @@ module _ (m : Module) (i : ℕ) (h : i < size m) (v : Vcpu) (here : v ≡ vcpuAt
         let l = vmpl-in m i h in
         (z .0, l .0, l .1, z .1, z .2, z .3)
 
-    pub notice-many : r .changes ≡ true → r .requested .many ≡ true → Words (v .irr) → Words (v .«irr_level»)
+    pub notice-many : r .changes ≡ true → r .requested .many ≡ true → Fits v
         → (e z : List ℕ) → e ≡ collect (admitsEdge (v .allowed) (descriptor (m .vmpl) q)) → z ≡ noticedPage (m .vmpl) q
         → (c : Counts) → c ≡ marksCounted (counts v (r .requested)) e (added v (r .requested) .irr)
-        → (s : List ℕ) → s ≡ union (added v (r .requested) .irr) e
-        → noticedOut (record { admission = Items (c .new) (c .merged); after = withVcpu m i (withIrr s (added v (r .requested))) }) z
+        → (s : List ℕ) → s ≡ union (added v (r .requested) .irr) e → (x : ℕ) → x ≡ bitOr (added v (r .requested) .summary) (summaryOf e)
+        → noticedOut (record { admission = Items (c .new) (c .merged); after = withVcpu m i (withSummary x (withIrr s (added v (r .requested)))) }) z
         ≡ step m (at i (notice p))
     unfolding vcpuVerdict
-    notice-many t f wi wl e z g j c k s u =
-        let y = record-many (m .vmpl) v p q r w t f wi wl e z g j c k s u in noticed-on p z _ (y .0) (y .1)
+    notice-many t f fit e z g j c k s u x b =
+        let y = record-many (m .vmpl) v p q r w t f fit e z g j c k s u x b in noticed-on p z _ (y .0) (y .1)
 
   abbrev pub Hands : List ℕ → Bool → Bool → Outcome → List ℕ → Type 0
   Hands p iF sh r q =

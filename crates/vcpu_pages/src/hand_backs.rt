@@ -20,6 +20,7 @@ pub fn empty_vcpu(v: Vcpu) -> Vcpu
     let mut w = v;
     w.allowed = none;
     w.irr = none;
+    w.summary = 0;
     w.isr = none;
     w.irr_level = none;
     w.isr_level = none;

@@ -26,6 +26,7 @@ of-sets p s =
       icr = 0;
       phase = p;
       flight = Nothing;
+      summary = 0;
     }
 
 returns : tie.Need-returns

@@ -3,13 +3,14 @@ use mathlib.Core.Path.{_≡_, refl, sym, ap, _∙_}
 use mathlib.Core.Bool.{Bool, true, not, Bool·not-not}
 use Prim.Native.Nat.{_<_}
 use native.Mathlib.Omega.{arith}
+use lib.Bits.{bitOr}
 use borrow.Author.Needs.{needs}
 use Rattle.vector_set.specs.Sets.{union}
-use Rattle.vector_set.proofs.Laws.{Words}
+use Rattle.vector_set.specs.Summaries.{summaryOf}
 use Rattle.vector_set.proofs.WordLaws.{field-words}
 use Rattle.model.specs.declared.Vcpu.{Vcpu}
 use Rattle.vcpu.specs.Notices.{marksAdded, marksCounted}
-use Rattle.vcpu_pages.proofs.Adds.{added, counts}
+use Rattle.vcpu_pages.proofs.Adds.{Fits, added, counts}
 use Rattle.vcpu_pages.proofs.NoticeLaws.{changed, record-kept, record-one, still-asks, record-many}
 use Rattle.vcpu_pages.proofs.notices.notice_vcpu.Statement.{statement}
 use Rattle.vcpu_pages.proofs.notices.notice_vcpu.Tie as tie
@@ -18,18 +19,21 @@ use Rattle.vcpu_pages.proofs.notices.notice_vcpu.Tie as tie
 flag : (b : Bool) {n : Bool} → not b ≡ n → b ≡ not n
 flag b e = sym (Bool·not-not b) ∙ ap not e
 
-irr-words : (c : tie.Start) → Words (c .args .v .irr)
-irr-words c = field-words (c .args .v .irr) _ (c .good .1 .1 .0 .1 .1 .1 .0)
-
-level-words : (c : tie.Start) → Words (c .args .v .«irr_level»)
-level-words c = field-words (c .args .v .«irr_level») _ (c .good .1 .1 .0 .1 .1 .1 .1 .1 .0)
+fits : (c : tie.Start) → Fits (c .args .v)
+fits c =
+    let fields = c .good .1 .1 .0 .1 .1 in
+    record {
+      irr-words = field-words (c .args .v .irr) _ (fields .1 .0);
+      level-words = field-words (c .args .v .«irr_level») _ (fields .1 .1 .1 .0);
+      byte = fields .1 .1 .1 .1 .1 .1 .1 .1 .1 .1 .1 .0 .1;
+    }
 
 returns : tie.Need-returns
 returns c =
     let t = c .before .before .before .before in
     let s = t .before .before .before .before .before in
     let a = s .args in
-    record-kept (a .vmpl) (a .v) (a .page .now) (t .take .last .0) (t .take .result) (irr-words s) (level-words s) (t .take .ensures) (flag _ (c .if1 .taken))
+    record-kept (a .vmpl) (a .v) (a .page .now) (t .take .last .0) (t .take .result) (fits s) (t .take .ensures) (flag _ (c .if1 .taken))
 
 -- the word that is read and stored to
 below : (c : tie.Else1) → c .before .before .before .before .take .result .requested .posting .word < 8
@@ -48,7 +52,7 @@ returns-2 c =
     let a = s .args in
     let q = t .take .result in
     let z =
-    record-one (a .vmpl) (a .v) (a .page .now) (t .take .last .0) q (t .take .ensures) (asking l) (irr-words s) (level-words s)
+    record-one (a .vmpl) (a .v) (a .page .now) (t .take .last .0) q (t .take .ensures) (asking l) (fits s)
     (flag _ (c .before .if2 .taken)) (c .counts-of .result) (c .counts-of .ensures)
     in
     (ap (changed (c .counts-of .result)) (r .add-request .ensures) ∙ z .0, z .1)
@@ -76,11 +80,11 @@ returns-3 c =
     let q = t .take .result in
     let m = k .take-marks .result in
     let z =
-    record-many (a .vmpl) (a .v) (a .page .now) (t .take .last .0) q (t .take .ensures) (asking l) (flag _ (e .if2 .left)) (irr-words s) (level-words s)
+    record-many (a .vmpl) (a .v) (a .page .now) (t .take .last .0) q (t .take .ensures) (asking l) (flag _ (e .if2 .left)) (fits s)
     m (k .take-marks .last .0) (k .take-marks .ensures .0) (k .take-marks .ensures .1) (n .count-marks .result)
     (n .count-marks .ensures
     ∙ ap (λ (u : Vcpu). marksCounted (counts (a .v) (q .requested)) m (u .irr)) (r .add-request .ensures))
-    (union (added (a .v) (q .requested) .irr) m) refl
+    (union (added (a .v) (q .requested) .irr) m) refl (bitOr (added (a .v) (q .requested) .summary) (summaryOf m)) refl
     in (
       ap (changed (n .count-marks .result))
           (c .add-marks .ensures ∙ ap (marksAdded m) (r .add-request .ensures)) ∙ z .0,

@@ -1,7 +1,7 @@
 -- The answers of the functions in place as machine values, and the refusal that each makes by itself.
 --     machO, typedO, makesO, unknownO        for `Outcome`: its machine value; that it is of its type; that what it owns is had for nothing; that
 --                                            `Refused(UnknownVcpu)` fits.        doneO    that `Done(n)` does
---     machP, typedP, makesP, unknownP        for `Presentation`
+--     machP, typedP, makesP, unknownP        for `Presentation`.        vectorP    that `Vector(x)` fits
 --     machA, typedA, makesA, unknownA        for `Admission`.        itemsA    that `Items(n, m)` fits
 --     typed-unknown                          the refusal itself, before it is put into an answer
 -- Assumes `Given` where a model is in scope.
@@ -49,6 +49,9 @@ doneO n fits = EL.owes O.the-type O′.the-laws (outcome.Done n) ((refl, fits), 
 
 pub unknownP : Is P.the-row (presentation.Refused UnknownVcpu) (machP (presentation.Refused UnknownVcpu) ∷ [])
 unknownP = EL.owes P.the-type P′.the-laws (presentation.Refused UnknownVcpu) (([], (refl, (tt, (refl, tt)))), tt)
+
+pub vectorP : (x : ℕ) → x < 2 ^ 8 → Is P.the-row (presentation.Vector x) (machP (presentation.Vector x) ∷ [])
+vectorP x fits = EL.owes P.the-type P′.the-laws (presentation.Vector x) ((refl, fits), tt)
 
 pub unknownA : Is D.the-row (admission.Refused UnknownVcpu) (machA (admission.Refused UnknownVcpu) ∷ [])
 unknownA = EL.owes D.the-type D′.the-laws (admission.Refused UnknownVcpu) (([], (refl, (tt, (refl, tt)))), tt)

@@ -1,9 +1,9 @@
 -- A field of a record in place, and a word of a set of one: `m.vcpus[i].nmi`, `m.vcpus[i].irr[w]`. The record is not copied. It says nothing of any function.
 --     hand, in-hand           the module h with the record u at i, as stores in a row keep it: they do not nest; a module is in hand with its own record
 --     part-of                 field k of record i is read
---     SetField                one of its sets: irr, irr-level
+--     SetField                one of its sets: irr, isr, irr-level, isr-level
 --     set-of                  the address of a set
---     word-on, nmi-on, part-on        of the record in hand, word w of a set, the NMI mark and any field are read
+--     word-on, part-on        of the record in hand, word w of a set and any field are read
 --     puts-word, puts-field   a word, and a field as a whole (`WholeFields`), are written
 -- Assumes `Given`.
 use mathlib.Core.Path.{_≡_, refl, sym, ap, _∙_, subst}
@@ -35,7 +35,7 @@ use denote.ArrayMemory.{Single, array-apart, array-whole}
 use denote.Index.{place, place-is, others, takes, puts, row}
 use borrow.Struct.Behind.{put-at}
 use borrow.Struct.Items.{cut-array}
-use Rattle.model.specs.State.{vcpuAt, withVcpu, withIrr, withIrrLevel}
+use Rattle.model.specs.State.{vcpuAt, withVcpu, withIrr, withIsr, withIrrLevel, withIsrLevel}
 use Rattle.model.specs.declared.Module.{Module}
 use Rattle.model.specs.declared.Vcpu.{Vcpu}
 use Rattle.model.proofs.Module as T
@@ -44,7 +44,7 @@ use Rattle.model.proofs.Vcpu.Laws as R′
 use Rattle.vcpu.proofs.Stores.{put-same, get-put, put-put}
 use Rattle.gate_mut.proofs.Lens.{machV, spot, put-cut, record-swap, within-reads, within-writes}
 pub use Rattle.gate_mut.proofs.WholeFields.{machS, set-typed, field-set, field-set-at, read-set, inner, WholeField, nmi-mark, check-mark}
-pub use Rattle.gate_mut.proofs.WholeFields.{irr-set, allowed-set, machF, in-flight}
+pub use Rattle.gate_mut.proofs.WholeFields.{irr-set, allowed-set, machF, in-flight, summary-byte}
 
 -- Q is taken out of P; with Q′ in its place P is P′
 module _ {M : Type 1} (𝓤 : URA M) where
@@ -88,6 +88,32 @@ irr-level = record {
   same = λ v. refl;
   cut = λ 𝓤 H A W b p v ys. cut-array 𝓤 H A fullShare R.the-row (UInt w32) 8 96 v (withIrrLevel ys v) (v .«irr_level») ys (b, p)
       (put-at 𝓤 H A W fullShare R.the-type R′.the-laws 3 96 refl refl (b, p) v (withIrrLevel ys v) (R.struct .as-values v) ys refl refl);
+}
+
+abbrev pub isr : SetField
+isr = record {
+  k = 2;
+  d = 64;
+  τ = _;
+  at = refl;
+  get = λ v. v .isr;
+  put = withIsr;
+  same = λ v. refl;
+  cut = λ 𝓤 H A W b p v ys. cut-array 𝓤 H A fullShare R.the-row (UInt w32) 8 64 v (withIsr ys v) (v .isr) ys (b, p)
+      (put-at 𝓤 H A W fullShare R.the-type R′.the-laws 2 64 refl refl (b, p) v (withIsr ys v) (R.struct .as-values v) ys refl refl);
+}
+
+abbrev pub isr-level : SetField
+isr-level = record {
+  k = 4;
+  d = 128;
+  τ = _;
+  at = refl;
+  get = λ v. v .«isr_level»;
+  put = withIsrLevel;
+  same = λ v. refl;
+  cut = λ 𝓤 H A W b p v ys. cut-array 𝓤 H A fullShare R.the-row (UInt w32) 8 128 v (withIsrLevel ys v) (v .«isr_level») ys (b, p)
+      (put-at 𝓤 H A W fullShare R.the-type R′.the-laws 4 128 refl refl (b, p) v (withIsrLevel ys v) (R.struct .as-values v) ys refl refl);
 }
 
 module _ {M : Type 1} (𝓤 : URA M) (H : Heap 𝓤) (A : Atoms 𝓤) (W : Given 𝓤 H A) where
@@ -248,12 +274,6 @@ module _ {M : Type 1} {𝓤 : URA M} {H : Heap 𝓤} {A : Atoms 𝓤} {K : Type 
         (of-opd t (load t (from t (hop t r (stop t)))
         (within-reads t (partAt T.the-row fullShare (withVcpu h i u) b o) (tyInt w32) b (w * 4 + (spot o i + S .d))
         (vint w32 (getD (S .get (vcpuAt (withVcpu h i u) i)) w 0)) (word-look 𝓤 H A W (withVcpu h i u) b o i within S w in-set))))
-
-    pub nmi-on : Points K W (hand h b o i u ∷ Γ) E j b (spot o i)
-        → Rv K W (hand h b o i u ∷ Γ) E (rvOpd (copy (at j (deref R′.mir ∷ field 5 ∷ [])))) (vbool (u .nmi))
-    nmi-on r =
-        subst (λ (x : Vcpu). Rv K W (hand h b o i u ∷ Γ) E (rvOpd (copy (at j (deref R′.mir ∷ field 5 ∷ [])))) (vbool (x .nmi))) (get-put h i u l)
-        (part-of t (withVcpu h i u) b o i within 5 refl r)
 
     pub part-on : (k : ℕ) {τ : Ty} {d : ℕ} → fieldOf R′.mir k ≡ full (τ, d) → Points K W (hand h b o i u ∷ Γ) E j b (spot o i)
         → Rv K W (hand h b o i u ∷ Γ) E (rvOpd (copy (at j (deref R′.mir ∷ field k ∷ [])))) (getV (inner (machV u)) k)

@@ -11,8 +11,10 @@ pub mod OneRecord
 pub mod Page
 pub mod Pass
 pub mod Record
+pub mod Seen
 pub mod Served
 pub mod Sets
+pub mod Shared
 pub mod TwoLists
 pub mod Walk
 pub mod WholeFields

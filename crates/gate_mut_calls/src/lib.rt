@@ -20,14 +20,18 @@ fn send_in(m: &mut Module, caller: u32, value: u64) -> u64
     let targets = ipi::targets_of(value, caller);
     let posting = ipi::posting_of(icr::item_of(value));
     let w = posting.word;
+    let summary = ipi::summary_of(posting);
     let mut mask: u64 = 0;
     let mut k: u32 = 0;
     while k < n {
-        let j = k as usize;
-        if ipi::reaches(targets, k, m.vcpus[j].phase) {
-            let new = ipi::is_new(posting, m.vcpus[j].irr[w], m.vcpus[j].nmi);
-            m.vcpus[j].irr[w] = m.vcpus[j].irr[w] | posting.bits;
-            m.vcpus[j].nmi = m.vcpus[j].nmi | posting.nmi;
+        let v = &mut m.vcpus[k as usize];
+        if ipi::reaches(targets, k, v.phase) {
+            let word = v.irr[w];
+            let nmi = v.nmi;
+            let new = ipi::is_new(posting, word, nmi);
+            v.irr[w] = word | posting.bits;
+            v.nmi = nmi | posting.nmi;
+            v.summary = v.summary | summary;
             mask = mask | ((new as u64) << k);
         }
         k = k + 1;

@@ -9,14 +9,15 @@ use model::Module;
 use model::Outcome;
 use model::Refusal;
 use vcpu::notices::count_marks;
+use vcpu::notices::mark_words;
 use vcpu_pages::hand_backs::empty_vcpu;
 use vcpu_pages::hand_backs::hand_over;
 use vcpu_pages::notices::take;
 use vector_set_algebra::union;
 
-// A host notice (section 4; 13.33). The page after it has what was taken cleared. A word of P and of PL and the marks of the NMI and the machine
-// check are stored, and P as a whole where marked vectors are taken. The marks come from the copy, which need
-// not be read again after the page's stores.
+// A host notice (section 4; 13.33). The page after it has what was taken cleared. A word of P and of PL, the marks of the NMI and the machine check
+// and the summary of P are stored, and P as a whole and its summary where marked vectors are taken. The marks and the summary come from the copy,
+// which need not be read again after the page's stores.
 pub fn notice_in(m: &mut Module, vcpu: u32, page: &mut [u8]) -> Admission
     ensures { λ r. ⌜ noticedOut (record { admission = r; after = now (m .exit) })
         (now (page .exit)) ≡ step (now (m .entry)) (at vcpu (Act.notice (now (page .entry)))) ⌝ }
@@ -38,6 +39,8 @@ pub fn notice_in(m: &mut Module, vcpu: u32, page: &mut [u8]) -> Admission
     m.vcpus[i].irr_level[w] = m.vcpus[i].irr_level[w] | taken.requested.level;
     m.vcpus[i].nmi = v.nmi | posting.nmi;
     m.vcpus[i].machine_check = v.machine_check | posting.machine_check;
+    let summary = v.summary | ipi::summary_of(posting);
+    m.vcpus[i].summary = summary;
     if !taken.requested.many {
         let c = counts_of(posting, before, v.nmi, v.machine_check);
         return Admission::Items(c.new, c.merged);
@@ -46,6 +49,7 @@ pub fn notice_in(m: &mut Module, vcpu: u32, page: &mut [u8]) -> Admission
     let irr = m.vcpus[i].irr;
     let c = count_marks(posting, before, v.nmi, v.machine_check, edge, irr);
     m.vcpus[i].irr = union(irr, edge);
+    m.vcpus[i].summary = mark_words(summary, edge);
     Admission::Items(c.new, c.merged)
 }
 

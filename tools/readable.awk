@@ -178,7 +178,8 @@ function record(line,    word, n, k, at, field) {
         (field["nmi"] == "0x0" ? "" : ", NMI pending") \
         part("TPR", field["tpr"], "0x0") part("ICR", field["icr"], "0x0") part("allowed", field["allowed"], "{}") \
         part("pending", field["pending"], "{}") part("of these level", field["pending_level"], "{}") \
-        part("in service", field["service"], "{}") part("of these level", field["serving_level"], "{}")
+        part("in service", field["service"], "{}") part("of these level", field["serving_level"], "{}") \
+        part("summary", field["summary"], "0x0")
 }
 
 function show_module(line, first,    word, n, k) {
@@ -198,6 +199,7 @@ function answer_of(given, words, told, count,    text) {
     else if (told[1] == "call") text = called(number(given[3]), number(given[4]), told[3])
     else if (told[1] == "entry") text = presented(told[2], told[3])
     else if (told[1] == "nondelivery") text = "pending again"
+    else if (told[1] == "ask") text = told[2] == "yes" ? "yes, an entry would present something" : "no"
     else if (told[1] == "allow") text = listed(given, words, told, count)
     else text = handed(number(told[3]))
     if (told[1] == "notice") text = text "; " page(bytes_of(given, 4, words), bytes_of(told, told[2] == "ok" ? 6 : 5, count))

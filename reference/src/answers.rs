@@ -1,10 +1,10 @@
 //! What the answers of notices and IPIs say of pending items (13.25, 13.42 to 13.46), checked against
-//! the module before and after each event of a list.
+//! the module before and after each event of a list; and that the question foretells an entry (8.21 to 8.23).
 
 use crate::book::Book;
 use crate::codes::Code;
 use crate::demand3::{admitted_by_book, entry_of, opened, Gate};
-use crate::events::{Admission, Answer, Event};
+use crate::events::{ask, Admission, Answer, Event, Shown};
 use crate::ipi::Ipi;
 use crate::page::Admitted;
 use crate::state::{items, Item, Module};
@@ -52,6 +52,20 @@ fn check(book: &Book, vmpl: u32, sides: &Sides, e: &Event, a: &Answer) -> Result
         (_, Answer::Call(Ok(named)), Some(ipi)) => {
             names(sides, &ipi, *named)?;
             reaches(book, sides, &ipi)
+        }
+        (
+            Event::Entry {
+                vcpu,
+                if_set: true,
+                shadow: false,
+                blocked: false,
+            },
+            Answer::Entry(answer),
+            _,
+        ) => {
+            let presents = matches!(answer, Ok(Shown::Presented(_)));
+            let foretold = ask(sides.before, *vcpu) == presents;
+            require(foretold, "the question says other than the entry does")
         }
         _ => Ok(()),
     }

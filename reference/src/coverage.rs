@@ -6,7 +6,7 @@ use std::io::{BufRead, Result};
 use crate::lines::Lines;
 
 /// The lines that can be printed (`docs/REPLAY.md`, section 11), numbers left out but for codes.
-const EXPECTED: [&str; 39] = [
+const EXPECTED: [&str; 41] = [
     "start ok",
     "start refused 0x5",
     "notice ok, no item",
@@ -43,6 +43,8 @@ const EXPECTED: [&str; 39] = [
     "allow refused 0x1",
     "allow refused 0x80000001",
     "allow refused 0x6",
+    "ask yes",
+    "ask no",
     "error line",
     "module",
     "vcpu",

@@ -7,7 +7,7 @@
 
 use crate::answers;
 use crate::book::{Book, Entry};
-use crate::events::{Answer, Event, Shown};
+use crate::events::{ask, Answer, Event, Shown};
 use crate::generate;
 use crate::ipi::Ipi;
 use crate::page::{admitted, Admitted};
@@ -26,6 +26,8 @@ pub struct Played {
     pub hand_back_pages: Vec<Vec<u8>>,
     /// The second lists, each after its event (5.29).
     pub codes: Vec<Vec<u32>>,
+    /// The question (8.21 to 8.23) of each event's vCPU, asked behind the event.
+    pub asked: Vec<bool>,
     pub module: Module,
 }
 
@@ -34,11 +36,14 @@ pub fn played(list: &[Event], gate: Gate) -> Played {
         answers: vec![],
         hand_back_pages: vec![],
         codes: vec![],
+        asked: vec![],
         module: Module::refused(),
     };
     for event in list {
         let mut event = event.clone();
         p.answers.push(gate(&mut p.module, &mut event));
+        p.asked
+            .push(event.vcpu().is_some_and(|vcpu| ask(&p.module, vcpu)));
         match event {
             Event::HandBack { page, .. } => p.hand_back_pages.push(page),
             Event::Allow { codes, .. } => p.codes.push(codes),
@@ -224,6 +229,9 @@ pub fn alike(first: &Played, second: &Played) -> Result<(), String> {
         .position(|(a, b)| a != b);
     if let Some(index) = differs {
         return Err(format!("event {index}: the twin's result differs"));
+    }
+    if first.asked != second.asked {
+        return Err("the answer to a question differs from the twin's".to_string());
     }
     if first.hand_back_pages != second.hand_back_pages {
         return Err("a page after a hand-back differs from the twin's".to_string());

@@ -46,6 +46,21 @@ pub enum Event {
     },
 }
 
+impl Event {
+    /// The vCPU that it names; a start names none.
+    pub fn vcpu(&self) -> Option<u32> {
+        match self {
+            Event::Start { .. } => None,
+            Event::Notice { vcpu, .. }
+            | Event::Call { vcpu, .. }
+            | Event::Entry { vcpu, .. }
+            | Event::NonDelivery { vcpu }
+            | Event::HandBack { vcpu, .. }
+            | Event::Allow { vcpu, .. } => Some(*vcpu),
+        }
+    }
+}
+
 /// 8.4
 #[derive(Clone, Copy, PartialEq, Eq, Debug)]
 pub enum Shown {
@@ -150,39 +165,60 @@ pub fn entry(
 ) -> Result<Shown, Code> {
     m.active(vcpu)?;
     let record = m.record_mut(vcpu);
+    let shown = shows(record, if_set, shadow, blocked);
     record.flight = None;
-    if record.machine_check {
-        record.machine_check = false;
-        record.flight = Some(Item::MachineCheck);
-        return Ok(Shown::Presented(Item::MachineCheck));
+    if let Shown::Presented(item) = shown {
+        present(record, item);
     }
-    if record.nmi && !shadow && !blocked {
-        record.nmi = false;
-        record.flight = Some(Item::Nmi);
-        return Ok(Shown::Presented(Item::Nmi));
-    }
-    let Some(v) = record.pending.highest() else {
-        return Ok(Shown::Nothing);
-    };
-    if class(v) <= class(ppr(record)) {
-        return Ok(Shown::Nothing);
-    }
-    if !if_set || shadow {
-        return Ok(Shown::Window(v));
-    }
-    present(record, v);
-    Ok(Shown::Presented(Item::Vector(v)))
+    Ok(shown)
 }
 
-/// 8.11, 8.12, 8.14
-fn present(record: &mut Record, v: usize) {
+/// What an entry of an active vCPU shows. This is apart from what it changes, so that the question is
+/// answered by the very same rule.
+fn shows(record: &Record, if_set: bool, shadow: bool, blocked: bool) -> Shown {
+    if record.machine_check {
+        return Shown::Presented(Item::MachineCheck);
+    }
+    if record.nmi && !shadow && !blocked {
+        return Shown::Presented(Item::Nmi);
+    }
+    match record.pending.highest() {
+        Some(v) if class(v) > class(ppr(record)) && if_set && !shadow => {
+            Shown::Presented(Item::Vector(v))
+        }
+        Some(v) if class(v) > class(ppr(record)) => Shown::Window(v),
+        _ => Shown::Nothing,
+    }
+}
+
+/// The question of request A6 (02): would an entry with IF and neither shadow nor NMI-blocked present
+/// anything? It is no event, and no is also the answer for a vCPU that is unknown or not active.
+pub fn ask(m: &Module, vcpu: u32) -> bool {
+    m.active(vcpu).is_ok()
+        && matches!(
+            shows(m.record(vcpu), true, false, false),
+            Shown::Presented(_)
+        )
+}
+
+/// 8.11, 8.12, 8.14, 8.17
+fn present(record: &mut Record, item: Item) {
+    match item {
+        Item::MachineCheck => record.machine_check = false,
+        Item::Nmi => record.nmi = false,
+        Item::Vector(v) => serve(record, v),
+    }
+    record.flight = Some(item);
+}
+
+/// 8.11, 8.12
+fn serve(record: &mut Record, v: usize) {
     record.pending.take(v);
     record.service.put(v);
     if record.pending_level.has(v) {
         record.pending_level.take(v);
         record.serving_level.put(v);
     }
-    record.flight = Some(Item::Vector(v));
 }
 
 /// 9.2, 9.3, 9.7, 9.9

@@ -20,6 +20,7 @@ pub mod odd_lines;
 pub mod page;
 pub mod play;
 pub mod print;
+pub mod questions;
 pub mod random;
 pub mod registers;
 pub mod set;

@@ -1,6 +1,6 @@
 //! How often the requests of a trace meet what is pending, in service or in flight, and what becomes
-//! of machine checks and of lists of values. Answers alone do not tell whom an IPI reached, nor which item was admitted, so
-//! the trace is played.
+//! of machine checks, of lists of values and of questions. Answers alone do not tell whom an IPI reached, nor which item
+//! was admitted, so the trace is played.
 
 use std::collections::BTreeMap;
 use std::io::{BufRead, Result};
@@ -11,6 +11,7 @@ use crate::ipi::Ipi;
 use crate::lines::Lines;
 use crate::machine_checks;
 use crate::page::{admitted, Admitted};
+use crate::questions;
 use crate::state::{Item, Module, Phase, Record};
 use crate::trace::{read, Line};
 use crate::value_lists;
@@ -35,7 +36,13 @@ pub const REQUESTS: [&str; 15] = [
 ];
 
 fn expected() -> Vec<&'static str> {
-    [&REQUESTS[..], &machine_checks::KINDS, &value_lists::KINDS].concat()
+    [
+        &REQUESTS[..],
+        &machine_checks::KINDS,
+        &value_lists::KINDS,
+        &questions::KINDS,
+    ]
+    .concat()
 }
 
 pub struct Merging {
@@ -48,16 +55,14 @@ impl Merging {
         let mut line = Vec::new();
         let mut module = Module::refused();
         let mut counts = BTreeMap::new();
+        let mut last = Line::PassedOver;
         while lines.next(&mut line)? {
-            let Line::Event(event) = read(&line) else {
-                continue;
-            };
-            let before = module.clone();
-            let answer = step(&mut module, &mut event.clone());
-            for kinds in [kinds, machine_checks::kinds, value_lists::kinds] {
-                for kind in kinds(&before, &event, &answer) {
-                    *counts.entry(kind).or_insert(0) += 1;
-                }
+            let line = read(&line);
+            for kind in kinds_of_line(&mut module, &last, &line) {
+                *counts.entry(kind).or_insert(0) += 1;
+            }
+            if line != Line::PassedOver {
+                last = line;
             }
         }
         Ok(Merging { counts })
@@ -83,6 +88,20 @@ impl Merging {
     pub fn report(&self) -> String {
         report(&expected(), &self.counts) + &listed("missing", &self.missing())
     }
+}
+
+/// The kinds of a line, which is played; `last` is the one before it.
+fn kinds_of_line(module: &mut Module, last: &Line, line: &Line) -> Vec<String> {
+    let Line::Event(event) = line else {
+        return questions::kinds(module, line);
+    };
+    let before = module.clone();
+    let answer = step(module, &mut event.clone());
+    let mut found = questions::behind(last, event, &answer);
+    for kinds in [kinds, machine_checks::kinds, value_lists::kinds] {
+        found.extend(kinds(&before, event, &answer));
+    }
+    found
 }
 
 fn kinds(before: &Module, event: &Event, answer: &Answer) -> Vec<String> {

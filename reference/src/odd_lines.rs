@@ -1,4 +1,4 @@
-//! Lines that are unreadable or passed over, and events spelt in unusual ways.
+//! Lines that are unreadable or passed over, and events and questions spelt in unusual ways.
 
 use std::io::{Result, Write};
 
@@ -6,8 +6,8 @@ use crate::events::Event;
 use crate::lines::LONGEST;
 use crate::random::Random;
 
-/// None of these is an event or `state`.
-const NO_EVENT: [&[u8]; 73] = [
+/// None of these is an event, `state` or a question.
+const NO_EVENT: [&[u8]; 87] = [
     b"",
     b"    ",
     b"# a comment",
@@ -80,6 +80,20 @@ const NO_EVENT: [&[u8]; 73] = [
     b"allow 0 4 0 3=1",
     b"allow 0 -1 0 0x141",
     b"Allow 0 1 0 0x141",
+    b"ask",
+    b"ask ",
+    b"ask 0 0",
+    b"ask 0 1 0 0",
+    b"ask 4294967296",
+    b"ask 0x100000000",
+    b"ask 18446744073709551616",
+    b"ask -0",
+    b"ask 0x",
+    b"ask 0 #",
+    b"ask\t0",
+    b"ask 0\r",
+    b"asks 0",
+    b"Ask 0",
     b"\xff\xfe\xb5",
 ];
 
@@ -100,6 +114,10 @@ pub fn before(r: &mut Random, event: &Event, out: &mut impl Write) -> Result<()>
     if r.below(4_000) == 0 {
         let many = " 321".repeat(1025 + r.below(2));
         writeln!(out, "allow 0 {} 0{many}", r.pick(&[0, 256, 1024]))?;
+    }
+    if r.below(50_000) == 0 {
+        out.write_all(&padded("ask 0".to_string(), LONGEST + r.between(1, 2)))?;
+        out.write_all(b"\n")?;
     }
     Ok(())
 }
@@ -129,6 +147,23 @@ pub fn spelling(r: &mut Random, event: &Event) -> Vec<u8> {
         }
         _ => (plain.as_str(), &[][..]),
     };
+    let mut line = respelt_words(r, head);
+    line += &page_words(r, page);
+    line.into_bytes()
+}
+
+/// The line of a question, now and then spelt in another way or as long as a line may be.
+pub fn question(r: &mut Random, vcpu: u32) -> Vec<u8> {
+    let plain = format!("ask {vcpu}");
+    match r.below(20_000) {
+        0 => padded(plain, LONGEST),
+        1..=1_000 => respelt_words(r, &plain).into_bytes(),
+        _ => plain.into_bytes(),
+    }
+}
+
+/// The name of a line and its numbers, with other spaces, bases and zeros.
+fn respelt_words(r: &mut Random, head: &str) -> String {
     let mut line = spaces(r, 0);
     for (index, word) in head.split(' ').enumerate() {
         let word = if index == 0 {
@@ -139,8 +174,7 @@ pub fn spelling(r: &mut Random, event: &Event) -> Vec<u8> {
         line += &word;
         line += &spaces(r, 1);
     }
-    line += &page_words(r, page);
-    line.into_bytes()
+    line
 }
 
 fn spaces(r: &mut Random, least: usize) -> String {

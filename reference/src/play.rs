@@ -2,7 +2,7 @@
 
 use std::io::{BufRead, Result, Write};
 
-use crate::events::step;
+use crate::events::{ask, step};
 use crate::lines::Lines;
 use crate::print;
 use crate::state::Module;
@@ -18,6 +18,7 @@ pub fn play(input: impl BufRead, mut output: impl Write) -> Result<()> {
         match read(&line) {
             Line::PassedOver => {}
             Line::Unreadable => writeln!(output, "error line {number}")?,
+            Line::Ask(vcpu) => writeln!(output, "{}", print::asked(ask(&module, vcpu)))?,
             Line::State => output.write_all(print::state(&module).as_bytes())?,
             Line::Event(mut event) => {
                 let answer = step(&mut module, &mut event);

@@ -28,6 +28,15 @@ pub fn answer(event: &Event, answer: &Answer) -> String {
     }
 }
 
+/// The line for a question (8.21 to 8.23).
+pub fn asked(yes: bool) -> &'static str {
+    if yes {
+        "ask yes"
+    } else {
+        "ask no"
+    }
+}
+
 fn outcome<T: LowerHex>(answer: &Result<T, Code>) -> String {
     match answer {
         Ok(value) => format!("ok {value:#x}"),
@@ -95,7 +104,7 @@ fn record_text(r: &Record) -> String {
     };
     format!(
         "phase={phase} flight={flight} nmi={:#x} tpr={:#x} icr={:#x} allowed={} pending={} \
-         service={} pending_level={} serving_level={} mc={:#x}",
+         service={} pending_level={} serving_level={} mc={:#x} summary={:#x}",
         u8::from(r.nmi),
         r.tpr,
         r.icr,
@@ -104,7 +113,8 @@ fn record_text(r: &Record) -> String {
         set(&r.service),
         set(&r.pending_level),
         set(&r.serving_level),
-        u8::from(r.machine_check)
+        u8::from(r.machine_check),
+        r.pending.summary()
     )
 }
 

@@ -76,6 +76,18 @@ impl VectorSet {
         }
         value
     }
+
+    /// The byte of request A6 (02), told anew from the members: bit k where one of 32k to 32k + 31 is
+    /// there.
+    pub fn summary(&self) -> u8 {
+        let mut byte = 0;
+        for k in 0..8 {
+            if self.register(k) != 0 {
+                byte += 2u8.pow(k as u32);
+            }
+        }
+        byte
+    }
 }
 
 impl std::fmt::Debug for VectorSet {

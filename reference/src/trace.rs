@@ -8,6 +8,8 @@ pub enum Line {
     PassedOver,
     Unreadable,
     State,
+    /// The question of request A6, of this vCPU.
+    Ask(u32),
     Event(Event),
 }
 
@@ -30,6 +32,7 @@ pub fn read(line: &[u8]) -> Line {
     match words.as_slice() {
         [] => Line::PassedOver,
         [b"state"] => Line::State,
+        [b"ask", vcpu] => number32(vcpu).map_or(Line::Unreadable, Line::Ask),
         [name, arguments @ ..] => event(name, arguments).map_or(Line::Unreadable, Line::Event),
     }
 }

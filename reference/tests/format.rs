@@ -7,7 +7,10 @@ use reference::play::play_text;
 use reference::trace::{number, read, Line};
 
 fn readable(line: &str) -> bool {
-    matches!(read(line.as_bytes()), Line::Event(_) | Line::State)
+    matches!(
+        read(line.as_bytes()),
+        Line::Event(_) | Line::State | Line::Ask(_)
+    )
 }
 
 #[test]
@@ -186,7 +189,8 @@ fn list_lines() {
         error line 9\ncall ok 0x0\nallow refused 0x80000001 codes 0x10\n\
         module n=0x1 vmpl=0x1 count=0x0\n\
         vcpu 0x0 phase=leaving flight=nothing nmi=0x0 tpr=0x0 icr=0x0 \
-        allowed={0x41,0x51,0x61} pending={} service={} pending_level={} serving_level={} mc=0x0\n";
+        allowed={0x41,0x51,0x61} pending={} service={} pending_level={} serving_level={} mc=0x0 \
+        summary=0x0\n";
     assert_eq!(play_text(trace.as_bytes()), output);
 }
 
@@ -250,20 +254,91 @@ fn state_lines() {
         "start ok\ncall ok 0x0\ncall ok 0x0\nnotice ok 0x2 0x0 page 0x100=0x9\ncall ok 0x1\n\
         call ok 0x0\nentry vector 0xff\nmodule n=0x1 vmpl=0x3 count=0x1\n\
         vcpu 0x0 phase=active flight=0xff nmi=0x1 tpr=0x10 icr=0x0 allowed={0x2,0x61} \
-        pending={0x61} service={0xff} pending_level={0x61} serving_level={} mc=0x0\n";
+        pending={0x61} service={0xff} pending_level={0x61} serving_level={} mc=0x0 summary=0x8\n";
     assert_eq!(play_text(trace.as_bytes()), output);
 }
 
-/// The mark of the machine check is a `vcpu` line's last part, and `mc` is what is in flight.
+/// The mark of the machine check is near a `vcpu` line's end, and `mc` is what is in flight.
 #[test]
 fn machine_check_lines() {
     let trace = "start 1 1\ncall 0 4 0x112 0\nnotice 0 256 3=1 65=2\nstate\nentry 0 0 1 1\nstate\n";
     let output = "start ok\ncall ok 0x0\nnotice ok 0x1 0x0 page\nmodule n=0x1 vmpl=0x1 count=0x1\n\
         vcpu 0x0 phase=active flight=nothing nmi=0x0 tpr=0x0 icr=0x0 allowed={0x12} pending={} \
-        service={} pending_level={} serving_level={} mc=0x1\nentry mc\n\
+        service={} pending_level={} serving_level={} mc=0x1 summary=0x0\nentry mc\n\
         module n=0x1 vmpl=0x1 count=0x1\n\
         vcpu 0x0 phase=active flight=mc nmi=0x0 tpr=0x0 icr=0x0 allowed={0x12} pending={} \
-        service={} pending_level={} serving_level={} mc=0x0\n";
+        service={} pending_level={} serving_level={} mc=0x0 summary=0x0\n";
+    assert_eq!(play_text(trace.as_bytes()), output);
+}
+
+/// A question: one number of 32 bits, and nothing behind it.
+#[test]
+fn questions() {
+    for (line, vcpu) in [
+        ("ask 0", 0),
+        ("  ask   0x1F  ", 31),
+        ("ask 000000000000000000000000000032", 32),
+        ("ask 4294967295", u32::MAX),
+        ("ask 0x00000000000000000ffffFFFF", u32::MAX),
+    ] {
+        assert_eq!(read(line.as_bytes()), Line::Ask(vcpu), "{line}");
+    }
+    for line in [
+        "ask",
+        "ask ",
+        "ask 0 0",
+        "ask 0 1 0 0",
+        "ask 4294967296",
+        "ask 0x100000000",
+        "ask 18446744073709551616",
+        "ask -1",
+        "ask 0x",
+        "ask 0X0",
+        "ask x",
+        "ask 0\r",
+        "ask\t0",
+        "ask0",
+        "asks 0",
+        "Ask 0",
+        "ask #",
+    ] {
+        assert_eq!(read(line.as_bytes()), Line::Unreadable, "{line}");
+    }
+}
+
+/// `ask yes` and `ask no`; in `state` the byte is a `vcpu` line's last part, one digit or two.
+#[test]
+fn question_lines() {
+    let vcpu = |flight: &str, pending: &str, service: &str, summary: &str| {
+        format!(
+            "module n=0x1 vmpl=0x1 count=0x1\nvcpu 0x0 phase=active flight={flight} nmi=0x0 tpr=0x0 \
+             icr=0x0 allowed={{}} pending={pending} service={service} pending_level={{}} \
+             serving_level={{}} mc=0x0 summary={summary}\n"
+        )
+    };
+    let trace = "ask 0\nstart 1 1\nask 0\nask 1\nask\ncall 0 3 0x83f 0xff\n\
+        call 0 3 0x83f 0x5f\nstate\nask 0\nentry 0 1 0 0\nask 0\nstate\n";
+    let output = [
+        "ask no\nstart ok\nask no\nask no\nerror line 5\ncall ok 0x1\ncall ok 0x1\n",
+        &vcpu("nothing", "{0x5f,0xff}", "{}", "0x84"),
+        "ask yes\nentry vector 0xff\nask no\n",
+        &vcpu("0xff", "{0x5f}", "{0xff}", "0x4"),
+    ];
+    assert_eq!(play_text(trace.as_bytes()), output.concat());
+}
+
+/// The example with requests A1 to A8 of the format, as far as it goes today.
+#[test]
+fn the_longer_example() {
+    let trace = "start 1 1\nallow 0 4 0xffffffff 0x141 0x11e 0x161\nnotice 0 256 3=1 64=0x41\n\
+        notice 0 256 3=1 65=0x40 72=2 76=2\nstate\nask 0\nentry 0 1 0 0\ncall 0 1 1 0\n\
+        handback 0 1 0 256\n";
+    let output = "start ok\nallow ok 0x0 codes 0x0 0x80000005 0x0 0xffffffff\n\
+        notice ok 0x1 0x0 page\nnotice ok 0x1 0x1 page\nmodule n=0x1 vmpl=0x1 count=0x1\n\
+        vcpu 0x0 phase=active flight=nothing nmi=0x0 tpr=0x0 icr=0x0 allowed={0x41,0x61} \
+        pending={0x41,0x61} service={} pending_level={} serving_level={} mc=0x0 summary=0xc\n\
+        ask yes\nentry vector 0x61\ncall ok 0x0\n\
+        handback ok 0x10001 page 0x41=0x40 0x48=0x2 0x6c=0x2\n";
     assert_eq!(play_text(trace.as_bytes()), output);
 }
 

@@ -14,6 +14,7 @@ use reference::machine_checks;
 use reference::merging::{Merging, REQUESTS};
 use reference::page::{admitted, announces, bit, clear_bit, set_bit};
 use reference::play::play_text;
+use reference::questions;
 use reference::set::VectorSet;
 use reference::state::{items, Item, Module, Phase, Record};
 use reference::trace::{read, Line};
@@ -55,14 +56,15 @@ fn everything_occurs() {
     assert!(coverage.complete(), "{}", coverage.report());
 }
 
-/// Requests meet their item pending in every way, and often; lists of values are of every kind (5.26).
+/// Requests meet their item pending in every way, and often; so do questions (8.21 to 8.23) what they hang on;
+/// lists of values are of every kind (5.26).
 #[test]
 fn merging_occurs() {
     let mut of_lists = value_lists::KINDS.map(|kind| (kind, 0));
     for seed in 0..4 {
         let trace = generated(seed, 15_000);
         let merging = Merging::of(&trace[..]).unwrap();
-        let kinds = [&REQUESTS[..], &machine_checks::KINDS].concat();
+        let kinds = [&REQUESTS[..], &machine_checks::KINDS, &questions::KINDS].concat();
         assert!(merging.fewest(&kinds) >= 10, "{}", merging.report());
         for (kind, count) in &mut of_lists {
             *count += merging.count(kind);

@@ -143,6 +143,7 @@ fn write(v: &mut Vcpu, id: u32, register: u32, value: u64) -> Outcome {
             let (w, bit) = place(value as u8);
             let new = v.irr[w] & bit == 0;
             v.irr[w] |= bit;
+            v.summary |= 1 << w;
             Outcome::Done(u64::from(new) << id)
         }
         TPR | EOI | SELF_IPI | ID | PPR | LDR | ISR..=0x827 => BAD,
@@ -218,6 +219,7 @@ fn write_icr(m: &mut Module, caller: u32, value: u64) -> Outcome {
         } else {
             let new = target.irr[w] & bit == 0;
             target.irr[w] |= bit;
+            target.summary |= 1 << w;
             new
         };
         named |= u64::from(new) << k;

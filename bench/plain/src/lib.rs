@@ -1,7 +1,7 @@
 //! The gate in plain Rust, in place: what `bench/run` measures the proved functions against. Written from
 //! `docs/SPECIFICATION.md` (4.17 is a clause there), with the state and the answers of `crates/model`, and for speed:
-//! words and masks, and nothing is stored but what changes. The six events are not inlined and have names that callgrind
-//! finds.
+//! words and masks, and nothing is stored but what changes. The six events and the question are not inlined and have names
+//! that callgrind finds.
 
 mod calls;
 mod pages;
@@ -41,6 +41,8 @@ pub struct Vcpu {
     pub icr: u64,
     pub phase: Phase,
     pub flight: InFlight,
+    /// Bit k where word k of the IRR is not 0.
+    pub summary: u8,
 }
 
 #[repr(C)]
@@ -106,9 +108,34 @@ fn highest(set: &Set) -> Option<u8> {
     None
 }
 
+/// The same of the IRR, whose marked words alone are read. A mark need not be true: one over an empty word is passed by.
+#[inline]
+fn highest_marked(set: &Set, marks: u8) -> Option<u8> {
+    let mut left = marks;
+    while left != 0 {
+        let k = left.ilog2();
+        let word = set[k as usize];
+        if word != 0 {
+            return Some((32 * k + 31 - word.leading_zeros()) as u8);
+        }
+        left ^= 1 << k;
+    }
+    None
+}
+
 /// The class of the processor priority (6.17, 6.18).
 fn priority_class(v: &Vcpu) -> u8 {
     (v.tpr >> 4).max(highest(&v.isr).unwrap_or(0) >> 4)
+}
+
+/// The vector that is presented where the guest takes interrupts (8.8, 8.9).
+#[inline(always)]
+fn presentable(v: &Vcpu) -> Option<u8> {
+    let vector = highest_marked(&v.irr, v.summary)?;
+    if vector >> 4 <= priority_class(v) {
+        return None;
+    }
+    Some(vector)
 }
 
 impl Vcpu {
@@ -126,6 +153,7 @@ impl Vcpu {
             icr: 0,
             phase,
             flight: InFlight::Nothing,
+            summary: 0,
         }
     }
 }
@@ -171,7 +199,19 @@ pub fn entry(m: &mut Module, vcpu: u32, iflag: bool, shadow: bool, blocked: bool
     if v.phase != Phase::Active {
         return Presentation::Refused(Refusal::NotActive);
     }
-    v.flight = InFlight::Nothing;
+    // Most entries find nothing: they read no word of the IRR, and store nothing either.
+    if v.flight != InFlight::Nothing {
+        v.flight = InFlight::Nothing;
+    }
+    if v.summary == 0 && !v.nmi && !v.machine_check {
+        return Presentation::Nothing;
+    }
+    present(v, iflag, shadow, blocked)
+}
+
+/// 8.6 to 8.14, 8.17; apart from `entry`, so that an idle one saves no registers.
+#[inline(never)]
+fn present(v: &mut Vcpu, iflag: bool, shadow: bool, blocked: bool) -> Presentation {
     if v.machine_check {
         v.machine_check = false;
         v.flight = InFlight::MachineCheck;
@@ -182,17 +222,17 @@ pub fn entry(m: &mut Module, vcpu: u32, iflag: bool, shadow: bool, blocked: bool
         v.flight = InFlight::Nmi;
         return Presentation::Nmi;
     }
-    let Some(vector) = highest(&v.irr) else {
+    let Some(vector) = presentable(v) else {
         return Presentation::Nothing;
     };
-    if vector >> 4 <= priority_class(v) {
-        return Presentation::Nothing;
-    }
     if !iflag || shadow {
         return Presentation::Window(vector);
     }
     let (w, bit) = place(vector);
     v.irr[w] &= !bit;
+    if v.irr[w] == 0 {
+        v.summary &= !(1 << w);
+    }
     v.isr[w] |= bit;
     if v.irr_level[w] & bit != 0 {
         v.irr_level[w] &= !bit;
@@ -200,6 +240,17 @@ pub fn entry(m: &mut Module, vcpu: u32, iflag: bool, shadow: bool, blocked: bool
     }
     v.flight = InFlight::Vector(vector);
     Presentation::Vector(vector)
+}
+
+/// Would an entry with IF and neither shadow nor NMI-blocked present anything (request A6)?
+#[inline(never)]
+#[export_name = "plain::would_present"]
+pub fn would_present(m: &Module, vcpu: u32) -> bool {
+    if !m.has(vcpu) {
+        return false;
+    }
+    let v = &m.vcpus[vcpu as usize];
+    v.phase == Phase::Active && (v.machine_check || v.nmi || presentable(v).is_some())
 }
 
 /// Section 9
@@ -221,6 +272,7 @@ pub fn non_delivery(m: &mut Module, vcpu: u32) -> Outcome {
             let (w, bit) = place(vector);
             v.isr[w] &= !bit;
             v.irr[w] |= bit;
+            v.summary |= 1 << w;
             if v.isr_level[w] & bit != 0 {
                 v.isr_level[w] &= !bit;
                 v.irr_level[w] |= bit;

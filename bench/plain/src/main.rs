@@ -12,7 +12,7 @@ struct Given {
     n: u32,
     vmpl: u32,
     /// 0 entry, 1 notice of one vector, 2 notice of many, 3 call, 4 non-delivery, 5 hand-back,
-    /// 6 list of RDX values from ECX on, 7 the same values by a call each
+    /// 6 list of RDX values from ECX on, 7 the same values by a call each, 8 the question
     kind: u64,
     /// Word 2 of the IRR and of the ISR, and byte 0 of the descriptor.
     pending: u32,
@@ -98,7 +98,8 @@ fn mix_vcpu(mut digest: u64, v: &Vcpu) -> u64 {
         InFlight::Vector(x) => 0x100 + u64::from(x),
     };
     let marks = 2 * u64::from(v.machine_check) + u64::from(v.nmi);
-    for x in [marks, u64::from(v.tpr), v.icr, phase, flight] {
+    let summary = u64::from(v.summary);
+    for x in [marks, u64::from(v.tpr), v.icr, phase, flight, summary] {
         digest = mix(digest, x);
     }
     digest
@@ -121,6 +122,7 @@ fn digest_of(m: &Module, page: &[u8; 256], codes: &[u32; 256]) -> u64 {
 /// What an event needs before it, so that each is like the one before.
 fn lay_out(g: &Given, v: &mut Vcpu, page: &mut [u8; 256]) {
     v.irr[2] = g.pending;
+    v.summary = v.summary & !4 | u8::from(g.pending != 0) << 2;
     v.isr[2] = g.serving;
     match g.kind {
         1 => {
@@ -161,6 +163,7 @@ fn play(
         4 => outcome(plain::non_delivery(m, k)),
         6 => outcome(plain::allow(m, k, values, codes)),
         7 => call_each(g, m, k, values, codes),
+        8 => u64::from(plain::would_present(m, k)),
         _ => outcome(plain::hand_back(m, k, page, g.iflag, false)),
     }
 }

@@ -57,6 +57,7 @@ pub fn notice(m: &mut Module, vcpu: u32, page: &mut [u8]) -> Admission {
     if named && (level || flags & MANY == 0) {
         counts.add(v.irr[w] & bit != 0);
         v.irr[w] |= bit;
+        v.summary |= 1 << w;
     }
     if level {
         v.irr_level[w] |= bit;
@@ -109,11 +110,22 @@ fn admit_many(v: &mut Vcpu, d: &mut [u8; 64], level: Option<(usize, u32)>, count
     }
     d[3] &= 0x7F;
     d[4..32].fill(0);
+    v.summary |= marks(&edge);
     for (pending, more) in v.irr.iter_mut().zip(edge) {
         counts.merged += (*pending & more).count_ones();
         counts.new += (!*pending & more).count_ones();
         *pending |= more;
     }
+}
+
+/// Bit k where word k is not 0; in words of 32 bits, which the compiler takes four at a time.
+#[inline]
+fn marks(set: &Set) -> u8 {
+    let mut marks = 0;
+    for (k, &word) in set.iter().enumerate() {
+        marks |= if word != 0 { 1u32 << k } else { 0 };
+    }
+    marks as u8
 }
 
 /// Section 10
@@ -138,6 +150,7 @@ pub fn hand_back(m: &mut Module, vcpu: u32, page: &mut [u8], iflag: bool, shadow
     v.isr_level = [0; 8];
     v.nmi = false;
     v.machine_check = false;
+    v.summary = 0;
     v.phase = Phase::Left;
     Outcome::Done(
         u64::from(m.vmpl) << 16 | u64::from(v.tpr) << 8 | u64::from(shadow) << 1 | u64::from(iflag),

@@ -1,7 +1,8 @@
-//! The plain gate against `reference`, on its generated events: every answer, page, second list and module.
+//! The plain gate against `reference`, on its generated events: every answer, page, second list and module, the summary of each
+//! record, and the question.
 
 use plain::{InFlight, Outcome, Presentation, Set};
-use reference::events::{step, Admission, Answer, Event, Shown};
+use reference::events::{ask, step, Admission, Answer, Event, Shown};
 use reference::generate::Generator;
 use reference::set::VectorSet;
 use reference::state::{Item, Module, Phase, Record};
@@ -45,6 +46,21 @@ fn module(m: &plain::Module) -> Module {
         count: m.registrations,
         records: m.vcpus[..m.n as usize].iter().map(record).collect(),
     }
+}
+
+/// Of the vCPUs that there are, and of some that there are not.
+fn asked_alike(ours: &plain::Module, theirs: &Module) -> bool {
+    let known = 0..theirs.n;
+    let unknown = [theirs.n, 32, 256, 0x1_0000, u32::MAX];
+    known
+        .chain(unknown)
+        .all(|vcpu| plain::would_present(ours, vcpu) == ask(theirs, vcpu))
+}
+
+fn summaries_true(ours: &plain::Module, theirs: &Module) -> bool {
+    let both = ours.vcpus.iter().zip(&theirs.records);
+    both.into_iter()
+        .all(|(v, record)| v.summary == record.pending.summary())
 }
 
 fn number(o: Outcome) -> Result<u64, u32> {
@@ -135,7 +151,33 @@ fn agrees_on_generated_events() {
                 theirs,
                 "the module, seed {seed}, event {i}: {written}"
             );
+            assert!(
+                summaries_true(&ours, &theirs),
+                "a summary, seed {seed}, event {i}: {written}"
+            );
+            assert!(
+                asked_alike(&ours, &theirs),
+                "a question, seed {seed}, event {i}: {written}"
+            );
         }
+    }
+}
+
+/// Marks over empty words slow an entry down and change no answer.
+#[test]
+fn too_many_marks_do_no_harm() {
+    let mut generator = Generator::new(21);
+    let mut theirs = Module::refused();
+    let mut ours = plain::start(0, 0).1;
+    for i in 0..10_000 {
+        let mut event = generator.next_event();
+        let expected = step(&mut theirs, &mut event.clone());
+        for v in &mut ours.vcpus {
+            v.summary |= 1 << (i % 8) | 1 << (i / 8 % 8);
+        }
+        assert_eq!(played(&mut ours, &mut event), expected);
+        assert_eq!(module(&ours), theirs);
+        assert!(asked_alike(&ours, &theirs));
     }
 }
 

@@ -46,6 +46,7 @@ pub enum Answer {
     Outcome(Outcome),
     Admission(Admission),
     Presentation(Presentation),
+    Asked(bool),
 }
 
 pub fn begin() -> Session {

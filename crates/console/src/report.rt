@@ -51,6 +51,14 @@ fn put_presentation(out: &mut Chunk, sink: Sink, p: Presentation) -> Sink {
     }
 }
 
+fn put_asked(out: &mut Chunk, sink: Sink, yes: bool) -> Sink {
+    if yes {
+        put(out, sink, b" yes")
+    } else {
+        put(out, sink, b" no")
+    }
+}
+
 // The name of an event, then its answer.
 fn put_answer(out: &mut Chunk, sink: Sink, name: &[u8], a: Answer) -> Sink {
     let sink = put(out, sink, name);
@@ -59,6 +67,7 @@ fn put_answer(out: &mut Chunk, sink: Sink, name: &[u8], a: Answer) -> Sink {
         Answer::Outcome(o) => put_outcome(out, sink, o),
         Answer::Admission(x) => put_admission(out, sink, x),
         Answer::Presentation(p) => put_presentation(out, sink, p),
+        Answer::Asked(yes) => put_asked(out, sink, yes),
     }
 }
 
@@ -172,6 +181,7 @@ fn put_vcpu(out: &mut Chunk, sink: Sink, i: u32, v: Vcpu) -> Sink {
     let sink = put_hex(out, sink, b" icr=", v.icr);
     let sink = put_sets(out, sink, v);
     let sink = put_hex(out, sink, b" mc=", v.machine_check as u64);
+    let sink = put_hex(out, sink, b" summary=", v.summary as u64);
     put_byte(out, sink, b'\n')
 }
 
@@ -266,6 +276,7 @@ fn put_event(
         Event::NonDelivery { .. } => put_plain(out, sink, b"nondelivery", answer),
         Event::HandBack { length, .. } => put_paged(out, sink, b"handback", answer, page, length),
         Event::Allow { length, .. } => put_listed(out, sink, answer, codes, length),
+        Event::Ask { .. } => put_plain(out, sink, b"ask", answer),
         Event::State => put_module(out, sink, module),
     }
 }

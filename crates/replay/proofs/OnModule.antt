@@ -2,6 +2,7 @@
 -- is said.
 --     Ends                     [the module; its token; the page; its token]
 --     Plainly, modules         a function over the module and plain data
+--     Reading, reads-module    one that only reads the module, which comes back as it was
 --     fronts                   `console::front`, with the page lent as a slice
 --     Paged, pages             a function over the module, a vCPU's number, that slice and other plain data, which answers with an outcome
 -- Assumes `Given`, and `FmC` of the table of calls.
@@ -24,7 +25,8 @@ use types.Run.{Opds}
 use denote.RattleType.{RattleType, Denots, Valss, flat}
 use denote.Laws.{Is, Ises, Are, Tells, Makess}
 use denote.Array.{Array}
-use denote.Builtin.{usize, RefMutOf, SliceRefMutOf}
+use denote.Memory.{partAt}
+use denote.Builtin.{usize, RefOf, RefMutOf, SliceRefMutOf}
 use denote.Lend.{Held, LentAgain}
 use denote.Ref.{RefT, ptr, now}
 use denote.Signature.{Slot, typesAt}
@@ -37,7 +39,7 @@ use Rattle.model.proofs.Module as T
 use Rattle.console.proofs.front as front
 use Rattle.console.proofs.front.Symbol.{name as #front}
 use Rattle.replay.proofs.Call.{Callee, Closed, plain-args, calls, keeps, asks}
-use Rattle.replay.proofs.Lend.{at, Lent, Ref, Token, Kept, lends, comes-back, lends-slice, slice-back}
+use Rattle.replay.proofs.Lend.{at, Lent, Ref, Token, Kept, lends, comes-back, lends-shared, shared-back, lends-slice, slice-back}
 
 abbrev pub Page : RattleType
 Page = Array u8 4096
@@ -52,6 +54,10 @@ Paged ss ks R =
 -- a function over the module and plain data
 abbrev pub Plainly : (ss : List (Slot 1)) → Kepts ss → Slot 1 → Ended
 Plainly ss ks res = Callee 1 (RefMutOf (0 ∷ []) tt (plain (λ _. T.the-row)) (λ _. tt) ∷ ss) (yes, ks) res
+
+-- and one that only reads the module
+abbrev pub Reading : (ss : List (Slot 1)) → Kepts ss → Slot 1 → Ended
+Reading ss ks res = Callee 1 (RefOf (0 ∷ []) tt (plain (λ _. T.the-row)) (λ _. tt) ∷ ss) (yes, ks) res
 
 module _ {M : Type 1} {𝓤 : URA M} (m p : Lent) where
   abbrev pub Ends : Module → List ℕ → List (Item 𝓤)
@@ -140,3 +146,23 @@ module _ {M : Type 1} (𝓤 : URA M) (H : Heap 𝓤) (A : Atoms 𝓤) (W : Given
         asks 1 (RefMutOf (0 ∷ []) tt (plain (λ _. T.the-row)) (λ _. tt) ∷ ss) (yes, ks) res c t (fmOf 𝓤 H (W .laws) 𝓣) known (α ∷ [], tt) (fullShare, tt)
         (val α) (tells α) (at (m .block) (m .offset) γ₁ h, a α) (vptr (m .block) (m .offset) ∷ [], vss α) (g α γ₁) (met α γ₁) (os α γ₁ _)
         (λ r is. comes-back t tt T.the-row h (λ h′. k α r is h′)))
+
+    -- the call of one that only reads the module
+    pub reads-module : K → {f : Name} (ss : List (Slot 1)) (ks : Kepts ss) (res : Slot 1) (c : Clauses 𝓤 (Reading ss ks res))
+        → Triple 𝓤 (𝓣 .C f) (Closed (Reading ss ks res) 𝓤 H A c)
+        → (val : (α : ℕ) → res .row (α ∷ [], tt) .Denot → Val) → ((α : ℕ) → Tells (res .row (α ∷ [], tt)) (Is (res .row (α ∷ [], tt))) (λ r. val α r ∷ []))
+        → ((α : ℕ) → Makess 𝓤 H A (typesAt ss (α ∷ [], tt)) (Ises (typesAt ss (α ∷ [], tt))))
+        → (a : (α : ℕ) → Denots (typesAt ss (α ∷ [], tt))) (vss : (α : ℕ) → Valss (typesAt ss (α ∷ [], tt)))
+        → ((α : ℕ) → Are (typesAt ss (α ∷ [], tt)) (Ises (typesAt ss (α ∷ [], tt))) (a α) (vss α))
+        → (g : (α : ℕ) (γ₁ : GName) → c (α ∷ [], tt) (at (m .block) (m .offset) γ₁ h, a α) .ghost)
+        → ((α : ℕ) (γ₁ : GName) → ent 𝓤 (emp 𝓤) (c (α ∷ [], tt) (at (m .block) (m .offset) γ₁ h, a α) .requires (g α γ₁)))
+        → ((α : ℕ) (x : Item 𝓤) → Opds K W (x ∷ ‵ (Kept T.the-row (m .lft) (m .share) (m .name) (m .block) (m .offset) h (α ∷ [])
+        (partAt T.the-row fullShare h (m .block) (m .offset))) ∷ Γ) E xs (vptr (m .block) (m .offset) ∷ flat (typesAt ss (α ∷ [], tt)) (vss α)))
+        → ((α : ℕ) (r : res .row (α ∷ [], tt) .Denot) → Is (res .row (α ∷ [], tt)) r (val α r ∷ [])
+        → Seq K W (Ref m T.the-row h ∷ Token m ∷ Γ) (lands (𝓣 .C) (𝓣 .Λ) E d (val α r) next Q))
+        → Seq K W (Ref m T.the-row h ∷ Token m ∷ Γ) (runs (𝓣 .C) (𝓣 .Λ) E (seq (call f xs d) next) Q)
+    reads-module t ss ks res c known val tells mk a vss are g met os k = lends-shared t tt T.the-row h (λ α γ₁.
+        plain-args t 1 (α ∷ [], tt) ss (mk α) (a α) (vss α) (are α) $ move t (1 ∷ []) $ fjoin t $
+        asks 1 (RefOf (0 ∷ []) tt (plain (λ _. T.the-row)) (λ _. tt) ∷ ss) (yes, ks) res c t (fmOf 𝓤 H (W .laws) 𝓣) known (α ∷ [], tt) (fullShare, tt)
+        (val α) (tells α) (at (m .block) (m .offset) γ₁ h, a α) (vptr (m .block) (m .offset) ∷ [], vss α) (g α γ₁) (met α γ₁) (os α _)
+        (λ r is. shared-back t tt T.the-row h (k α r is)))

@@ -16,6 +16,7 @@ use gate_mut_allow::allow_in;
 use gate_mut_calls::call_in;
 use gate_mut_entries::entry_in;
 use gate_mut_entries::non_delivery_in;
+use gate_mut_entries::would_present_in;
 use gate_mut_pages::hand_back_in;
 use gate_mut_pages::notice_in;
 use model::Module;
@@ -42,6 +43,7 @@ fn play_plain(module: &mut Module, event: Event) -> Answer {
             blocked,
         } => Answer::Presentation(entry_in(module, vcpu, iflag, shadow, blocked)),
         Event::NonDelivery { vcpu } => Answer::Outcome(non_delivery_in(module, vcpu)),
+        Event::Ask { vcpu } => Answer::Asked(would_present_in(module, vcpu)),
         _ => Answer::Nothing,
     }
 }

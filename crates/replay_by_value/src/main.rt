@@ -58,6 +58,13 @@ fn entered(e: Entered) -> Played {
     }
 }
 
+fn asked(m: Module, yes: bool) -> Played {
+    Played {
+        module: m,
+        answer: Answer::Asked(yes),
+    }
+}
+
 // Plays an event that has neither page nor lists. The rest changes nothing: what is no event, and what `play` keeps for itself.
 fn play_plain(module: Module, event: Event) -> Played {
     match event {
@@ -75,6 +82,7 @@ fn play_plain(module: Module, event: Event) -> Played {
             blocked,
         } => entered(gate_entries::entry(module, vcpu, iflag, shadow, blocked)),
         Event::NonDelivery { vcpu } => stepped(gate_entries::non_delivery(module, vcpu)),
+        Event::Ask { vcpu } => asked(module, gate_entries::would_present(module, vcpu)),
         _ => silent(module),
     }
 }

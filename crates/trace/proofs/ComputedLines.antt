@@ -10,8 +10,8 @@ use Rattle.trace.specs.Numbers.{digit, digitsFrom, digitsOf, isHex, numb
 use Rattle.trace.specs.Words.{spaces, ending, wordsAfter, words, rest, same, first}
 use Rattle.trace.specs.Lists.{isValue, areValues, countOf}
 use Rattle.trace.specs.Pages.{fill}
-use Rattle.trace.specs.Lines.{given, taking, only, paged, start, notice, call, entry, nonDelivery, handBack, allow, nameIn, named, spoken, isComment}
-use Rattle.trace.specs.Lines.{eventOf}
+use Rattle.trace.specs.Lines.{given, taking, only, paged, start, notice, call, entry, nonDelivery, handBack, allow, ask, nameIn, named, spoken}
+use Rattle.trace.specs.Lines.{isComment, eventOf}
 use Rattle.trace.specs.WorkedLines.{WorkedLines}
 
 -- a list of numbers is known by its values
@@ -25,7 +25,7 @@ values-in (v ∷ vs) = ap (λ us. v ∷ us) (values-in vs)
 
 pub worked-lines : WorkedLines
 unfolding digit digitsFrom digitsOf isHex numberOf upTo spaces ending wordsAfter words rest same first isValue areValues countOf given taking only start call
-    entry nonDelivery fill paged notice handBack allow nameIn named spoken isComment eventOf
+    entry nonDelivery fill paged notice handBack allow ask nameIn named spoken isComment eventOf
 worked-lines =
     record {
       start = refl;
@@ -45,5 +45,10 @@ worked-lines =
       notice = refl;
       handBack = refl;
       shadowed = refl;
+      ask = refl;
+      askWide = refl;
+      askTooWide = refl;
+      askBare = refl;
+      askTwice = refl;
       state = refl;
     }

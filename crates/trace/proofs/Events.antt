@@ -15,7 +15,7 @@ use Rattle.trace.specs.declared.Event.the-variants.{Nothing, Unreadable,
 use Rattle.trace.specs.declared.Name.{Name}
 use Rattle.trace.specs.Words.{words, first, rest, same}
 use Rattle.trace.specs.Pages.{Bytes, told, garbled}
-use Rattle.trace.specs.Lines.{Made, given, taking, only, paged, start, notice, call, entry, nonDelivery, handBack, allow}
+use Rattle.trace.specs.Lines.{Made, given, taking, only, paged, start, notice, call, entry, nonDelivery, handBack, allow, ask}
 use Rattle.trace.specs.Lines.{nameIn, nameOf, named, spoken, isComment, eventOf, PageIs, ValuesAre}
 use Rattle.trace.proofs.Reading.{clash}
 
@@ -105,6 +105,10 @@ plain-entry us = by-taking Plain plain-none _ us _ λ i f s b ts. by-only Plain 
 pub plain-non-delivery : (us : List (List ℕ)) → Plain (nonDelivery us)
 unfolding nonDelivery
 plain-non-delivery us = by-taking Plain plain-none _ us _ λ i ts. by-only Plain plain-none ts _ λ ws p vs. (tt, tt)
+
+pub plain-ask : (us : List (List ℕ)) → Plain (ask us)
+unfolding ask
+plain-ask us = by-taking Plain plain-none _ us _ λ i ts. by-only Plain plain-none ts _ λ ws p vs. (tt, tt)
 
 pub plain-state : (us : List (List ℕ)) → Plain (only us State)
 plain-state us = by-only Plain plain-none us _ λ ws p vs. (tt, tt)

@@ -12,7 +12,7 @@ use Rattle.trace.specs.declared.Arguments.{Arguments}
 use Rattle.trace.specs.declared.Name.{Name}
 use Rattle.trace.specs.declared.Name.the-variants as name
 use Rattle.trace.specs.declared.Event.{Event}
-use Rattle.trace.specs.declared.Event.the-variants.{Nothing, Unreadable, Start, Notice, Call, Entry, NonDelivery, HandBack, Allow, State}
+use Rattle.trace.specs.declared.Event.the-variants.{Nothing, Unreadable, Start, Notice, Call, Entry, NonDelivery, HandBack, Allow, Ask, State}
 use Rattle.trace.specs.Numbers.{max32}
 use Rattle.trace.specs.Words.{ascii, words, first, rest, same}
 use Rattle.trace.specs.Pages.{Bytes, told, garbled, fill, zeros}
@@ -100,6 +100,10 @@ handBack ws =
 unfoldable pub allow : List (List ℕ) → Event
 allow ws = taking (max32 ∷ maxList ∷ max32 ∷ []) ws λ i long x us. given (countOf us) λ n. Allow i n long x
 
+-- `ask VCPU`
+unfoldable pub ask : List (List ℕ) → Event
+ask ws = taking (max32 ∷ []) ws λ i us. only us (Ask i)
+
 -- ---- lines
 abbrev pub names : List (List ℕ × Name)
 names =
@@ -110,6 +114,7 @@ names =
     ∷ (ascii "nondelivery", name.NonDelivery)
     ∷ (ascii "handback", name.HandBack)
     ∷ (ascii "allow", name.Allow)
+    ∷ (ascii "ask", name.Ask)
     ∷ (ascii "state", name.State)
     ∷ []
 
@@ -128,6 +133,7 @@ named name.Entry ws = entry ws
 named name.NonDelivery ws = nonDelivery ws
 named name.HandBack ws = handBack ws
 named name.Allow ws = allow ws
+named name.Ask ws = ask ws
 named name.State ws = only ws State
 named name.Unknown ws = Unreadable
 
@@ -158,6 +164,7 @@ PageIs ws (Entry i f s b) p = Unit
 PageIs ws (NonDelivery i) p = Unit
 PageIs ws (HandBack i f s long) p = (long ≤ 4096) × (fill long (drop 4 ws) zeros ≡ told p)
 PageIs ws (Allow i n long x) p = Unit
+PageIs ws (Ask i) p = Unit
 PageIs ws State p = Unit
 
 -- ---- the values of an event's list, after the words that follow its name: the numbers of the words after the first three, in order;
@@ -172,4 +179,5 @@ ValuesAre ws (Entry i f s b) vs = Unit
 ValuesAre ws (NonDelivery i) vs = Unit
 ValuesAre ws (HandBack i f s long) vs = Unit
 ValuesAre ws (Allow i n long x) vs = (long ≤ maxList) × (n ≤ maxList) × Holds (drop 3 ws) n vs
+ValuesAre ws (Ask i) vs = Unit
 ValuesAre ws State vs = Unit

@@ -5,7 +5,7 @@ use mathlib.Core.Bool.{true, false}
 use mathlib.Core.List.{List, [], _∷_}
 use Prim.Native.Nat.{ℕ}
 use lib.ListN.{take}
-use Rattle.trace.specs.declared.Event.the-variants.{Unreadable, Start, Notice, Call, Entry, NonDelivery, HandBack, Allow, State}
+use Rattle.trace.specs.declared.Event.the-variants.{Unreadable, Start, Notice, Call, Entry, NonDelivery, HandBack, Allow, Ask, State}
 use Rattle.trace.specs.Words.{ascii, words}
 use Rattle.trace.specs.Lines.{eventOf, ValuesAre}
 
@@ -29,4 +29,9 @@ pub record WorkedLines : Type 0 where
   pub notice : eventOf (ascii "notice 1 256") ≡ Notice 1 256
   pub handBack : eventOf (ascii "handback 1 1 0 256") ≡ HandBack 1 true false 256
   pub shadowed : eventOf (ascii "handback 1 0 1 256") ≡ HandBack 1 false true 256
+  pub ask : eventOf (ascii "ask 3") ≡ Ask 3
+  pub askWide : eventOf (ascii "ask 0xffffffff") ≡ Ask 0xFFFFFFFF
+  pub askTooWide : eventOf (ascii "ask 0x100000000") ≡ Unreadable
+  pub askBare : eventOf (ascii "ask") ≡ Unreadable
+  pub askTwice : eventOf (ascii "ask 3 3") ≡ Unreadable
   pub state : eventOf (ascii "state") ≡ State

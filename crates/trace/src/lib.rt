@@ -8,7 +8,7 @@ ghost use mathlib.Core.Path.{_≡_};
 ghost use Prim.Native.Nat.{_≤_};
 ghost use lib.ListN.{length, drop};
 ghost use Rattle.trace.specs.Words.{words, rest};
-ghost use Rattle.trace.specs.Lines.{only, start, notice, call, entry, nonDelivery, handBack, allow};
+ghost use Rattle.trace.specs.Lines.{only, start, notice, call, entry, nonDelivery, handBack, allow, ask};
 ghost use Rattle.trace.specs.Lines.{nameOf, named, isComment, eventOf, PageIs, ValuesAre};
 
 // The limits of arguments: a number of 32 bits or of 64, a flag, the length of a page, that of a list.
@@ -64,6 +64,9 @@ pub enum Event {
         length: usize,
         fill: u32,
     },
+    Ask {
+        vcpu: u32,
+    },
     State,
 }
 
@@ -76,6 +79,7 @@ enum Name {
     NonDelivery,
     HandBack,
     Allow,
+    Ask,
     State,
     Unknown,
 }
@@ -257,6 +261,22 @@ fn read_allow(s: &[u8], at: usize, values: &mut [u32; 1024]) -> Event
     }
 }
 
+// `ask VCPU`
+fn read_ask(s: &[u8], at: usize) -> Event
+    requires { ⌜ at ≤ length (now s) ⌝ }
+    ensures { λ r. ⌜ r ≡ ask (words (drop at (now (s .entry)))) ⌝ }
+{
+    let a = numbers::arguments_at(s, at, &[MAX32]);
+    if a.valid {
+        let e = Event::Ask {
+            vcpu: a.values[0] as u32,
+        };
+        ended(s, a.next, e)
+    } else {
+        Event::Unreadable
+    }
+}
+
 // ---- lines
 
 fn name_of(word: &[u8]) -> Name
@@ -282,6 +302,9 @@ fn name_of(word: &[u8]) -> Name
     }
     if words::is(word, b"allow") {
         return Name::Allow;
+    }
+    if words::is(word, b"ask") {
+        return Name::Ask;
     }
     if words::is(word, b"state") {
         return Name::State;
@@ -310,6 +333,7 @@ fn read_named(
         Name::NonDelivery => read_non_delivery(s, at),
         Name::HandBack => read_hand_back(s, at, page),
         Name::Allow => read_allow(s, at, values),
+        Name::Ask => read_ask(s, at),
         Name::State => ended(s, at, Event::State),
         Name::Unknown => Event::Unreadable,
     }

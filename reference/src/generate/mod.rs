@@ -4,6 +4,7 @@
 //! or in service, at vCPUs that are leaving, at what is in flight. A trace is a row of lists, each
 //! with its own `start`.
 
+mod asks;
 mod calls;
 mod pages;
 mod value_lists;
@@ -443,20 +444,26 @@ impl Generator {
     }
 }
 
-/// Writes a trace of `count` events; `state` lines, passed over and unreadable ones come on top.
+/// Writes a trace of `count` events; questions, `state` lines, passed over and unreadable ones come on top.
 pub fn generate(seed: u64, count: usize, out: &mut impl Write) -> Result<()> {
     let mut generator = Generator::new(seed);
     let mut odd = Random::new(seed ^ 0x6F64_6421);
+    let mut asking = Random::new(seed ^ 0x6173_6B21);
     writeln!(out, "# generate {seed} {count}")?;
     for _ in 0..count {
         let event = generator.next_event();
         if matches!(event, Event::Start { .. }) {
+            writeln!(out, "ask {}", asking.below(3))?;
             writeln!(out, "state")?;
         }
         odd_lines::before(&mut odd, &event, out)?;
         out.write_all(&odd_lines::spelling(&mut odd, &event))?;
         out.write_all(b"\n")?;
-        if odd.below(if generator.module.n <= 2 { 40 } else { 300 }) == 0 {
+        for vcpu in asks::behind(&mut asking, &generator.module, &event) {
+            out.write_all(&odd_lines::question(&mut asking, vcpu))?;
+            out.write_all(b"\n")?;
+        }
+        if odd.below(if generator.module.n <= 2 { 25 } else { 250 }) == 0 {
             writeln!(out, "state")?;
         }
     }

@@ -98,6 +98,7 @@ module _ {M : Type 1} (𝓤 : URA M) (H : Heap 𝓤) (A : Atoms 𝓤) (W : Given
     matched bs (event.NonDelivery i) = other-arms.non-delivery-arm 𝓤 H A W memory run m p h ys l 𝓣 bs plays-plainly i
     matched bs (event.HandBack i x y n) = paged-arms.hand-back-arm 𝓤 H A W memory run m p h ys l 𝓣 bs fronts-known hands-back i x y n
     matched bs (event.Allow i n z x) = listing-arms.allow-arm 𝓤 H A W memory run m p h ys l 𝓣 bs first-known blank-known allow-known i n z x
+    matched bs (event.Ask i) = other-arms.ask-arm 𝓤 H A W memory run m p h ys l 𝓣 bs plays-plainly i
     matched bs event.State = other-arms.state-arm 𝓤 H A W memory run m p h ys l 𝓣 bs plays-plainly
 
     abbrev given : Event → List Val

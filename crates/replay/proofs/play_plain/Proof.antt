@@ -44,6 +44,10 @@ use Rattle.gate_mut_entries.proofs.non_delivery_in as non-delivery
 use Rattle.gate_mut_entries.proofs.non_delivery_in.Symbol as non-delivery-def
 use Rattle.gate_mut_entries.proofs.non_delivery_in.Symbol.{name as #non-delivery}
 use Rattle.gate_mut_entries.proofs.non_delivery_in.Met as non-delivery-thm
+use Rattle.gate_mut_entries.proofs.would_present_in as asking
+use Rattle.gate_mut_entries.proofs.would_present_in.Symbol as asking-def
+use Rattle.gate_mut_entries.proofs.would_present_in.Symbol.{name as #asking}
+use Rattle.gate_mut_entries.proofs.would_present_in.Met as asking-thm
 use Rattle.gate_mut_calls.proofs.call_in as calling
 use Rattle.gate_mut_calls.proofs.call_in.Symbol as calling-def
 use Rattle.gate_mut_calls.proofs.call_in.Symbol.{name as #calling}
@@ -65,7 +69,7 @@ module _ {M : Type 1} (𝓤 : URA M) (H : Heap 𝓤) (A : Atoms 𝓤) (W : Given
   module _ (𝓣 : Tables 𝓤 H) (starts : Triple 𝓤 (𝓣 .C #start) (shape.Starts 𝓤 H A W memory run m h))
       (enters : Triple 𝓤 (𝓣 .C #entry) (shape.Enters 𝓤 H A W memory run m h))
       (non-delivers : Triple 𝓤 (𝓣 .C #non-delivery) (shape.NonDelivers 𝓤 H A W memory run m h))
-      (calls : Triple 𝓤 (𝓣 .C #calling) (shape.Calls 𝓤 H A W memory run m h)) where
+      (asks : Triple 𝓤 (𝓣 .C #asking) (shape.Asks 𝓤 H A W memory run m h)) (calls : Triple 𝓤 (𝓣 .C #calling) (shape.Calls 𝓤 H A W memory run m h)) where
     matched : (bs : Blocks (code.function .locals)) (e : Event) → shape.Matched 𝓤 H A W memory run m h 𝓣 bs e
     matched bs event.Nothing = event-arms.nothing-arm 𝓤 H A W memory run m h 𝓣 bs
     matched bs event.Unreadable = event-arms.unreadable-arm 𝓤 H A W memory run m h 𝓣 bs
@@ -76,6 +80,7 @@ module _ {M : Type 1} (𝓤 : URA M) (H : Heap 𝓤) (A : Atoms 𝓤) (W : Given
     matched bs (event.NonDelivery i) = event-arms.non-delivery-arm 𝓤 H A W memory run m h 𝓣 bs non-delivers i
     matched bs (event.HandBack i x y n) = event-arms.hand-back-arm 𝓤 H A W memory run m h 𝓣 bs i x y n
     matched bs (event.Allow i n z x) = event-arms.allow-arm 𝓤 H A W memory run m h 𝓣 bs i n z x
+    matched bs (event.Ask i) = event-arms.ask-arm 𝓤 H A W memory run m h 𝓣 bs asks i
     matched bs event.State = event-arms.state-arm 𝓤 H A W memory run m h 𝓣 bs
 
     abbrev given : Event → List Val
@@ -98,9 +103,10 @@ play-plain-spec-of : {M : Type 1} (𝓤 : URA M) (H : Heap 𝓤) (A : Atoms 𝓤
     → Triple 𝓤 (𝓣 .C #start) (tripleOf 𝓤 H A start.signature (start.spec 𝓤 H A memory run))
     → Triple 𝓤 (𝓣 .C #entry) (tripleOf 𝓤 H A entry.signature (entry.spec 𝓤 H A memory run))
     → Triple 𝓤 (𝓣 .C #non-delivery) (tripleOf 𝓤 H A non-delivery.signature (non-delivery.spec 𝓤 H A memory run))
+    → Triple 𝓤 (𝓣 .C #asking) (tripleOf 𝓤 H A asking.signature (asking.spec 𝓤 H A memory run))
     → Triple 𝓤 (𝓣 .C #calling) (tripleOf 𝓤 H A calling.signature (calling.spec 𝓤 H A memory run))
     → Meets 𝓤 H A on.signature (WpFn 𝓤 H (𝓣 .C) (𝓣 .Λ) code.function) (on.spec 𝓤 H A memory run)
-play-plain-spec-of 𝓤 H A W memory run 𝓣 starts enters non-delivers calls =
+play-plain-spec-of 𝓤 H A W memory run 𝓣 starts enters non-delivers asks calls =
     walk-meets 𝓤 H A on.ended shape.stayed W (
       goes-ref 𝓤 H A W 1 0 tt (plain (λ _. T.the-row)),
       (goes-dropped 𝓤 H A W 1 (plain (λ _. X.the-row)) yes (λ κs x f. refl), tt),
@@ -110,7 +116,7 @@ play-plain-spec-of 𝓤 H A W memory run 𝓣 starts enters non-delivers calls =
     (λ κs. (ptr-vals, (EL.vals X.the-type X′.the-laws, tt)))
     (λ κs. (mut-tells (named 0) (κs .0) T.the-row, (EL.tells X.the-type X′.the-laws, tt)))
     (λ κs qs bounds a _ are. via 𝓤 _ (fst∗ 𝓤 _ (emp 𝓤)) (walk 𝓤 H A W memory run (lent (κs .0) (qs .0) (a .0)) (a .0 .now)
-    𝓣 starts enters non-delivers calls (a .1 .0) (are .1 .0))))
+    𝓣 starts enters non-delivers asks calls (a .1 .0) (are .1 .0))))
 
 pub play-plain-spec : {M : Type 1} → stated.statement M
 unfolding code.routine tablesOf
@@ -124,5 +130,7 @@ play-plain-spec 𝓤 H 𝓜 𝓖 𝓡 =
     code.calls-gate-mut-entries·entry-in (entry-thm.met 𝓤 H 𝓜 𝓖 𝓡))
     (cited 𝓤 H (tripleOf 𝓤 H (𝓖 .A) non-delivery.signature (non-delivery.spec 𝓤 H (𝓖 .A) (𝓜 .mem) (𝓡 .run))) 𝓜 𝓡 code.env #non-delivery
     non-delivery-def.routine code.calls-gate-mut-entries·non-delivery-in (non-delivery-thm.met 𝓤 H 𝓜 𝓖 𝓡))
+    (cited 𝓤 H (tripleOf 𝓤 H (𝓖 .A) asking.signature (asking.spec 𝓤 H (𝓖 .A) (𝓜 .mem) (𝓡 .run))) 𝓜 𝓡 code.env #asking asking-def.routine
+    code.calls-gate-mut-entries·would-present-in (asking-thm.met 𝓤 H 𝓜 𝓖 𝓡))
     (cited 𝓤 H (tripleOf 𝓤 H (𝓖 .A) calling.signature (calling.spec 𝓤 H (𝓖 .A) (𝓜 .mem) (𝓡 .run))) 𝓜 𝓡 code.env #calling calling-def.routine
     code.calls-gate-mut-calls·call-in (calling-thm.met 𝓤 H 𝓜 𝓖 𝓡)))

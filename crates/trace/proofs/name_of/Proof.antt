@@ -80,12 +80,21 @@ left-7 c = name-miss _ _ _ _ (sym (c .before .is7 .ensures) ∙ c .if7 .left) �
 returns-8 : tie.Need-returns-8
 returns-8 c = name-hit _ _ _ _ (sym (c .before .is8 .ensures) ∙ c .if8 .taken) ∙ left-7 (c .before .before .before)
 
-left-8 : (c : tie.Else8) → Left 8 (word-7 (c .before .before .before))
+abbrev word-8 : tie.Else8 → List ℕ
+word-8 c = word-7 (c .before .before .before)
+
+left-8 : (c : tie.Else8) → Left 8 (word-8 c)
 left-8 c = name-miss _ _ _ _ (sym (c .before .is8 .ensures) ∙ c .if8 .left) ∙ left-7 (c .before .before .before)
 
 returns-9 : tie.Need-returns-9
+returns-9 c = name-hit _ _ _ _ (sym (c .before .is9 .ensures) ∙ c .if9 .taken) ∙ left-8 (c .before .before .before)
+
+left-9 : (c : tie.Else9) → Left 9 (word-8 (c .before .before .before))
+left-9 c = name-miss _ _ _ _ (sym (c .before .is9 .ensures) ∙ c .if9 .left) ∙ left-8 (c .before .before .before)
+
+returns-10 : tie.Need-returns-10
 unfolding nameIn
-returns-9 c = left-8 c
+returns-10 c = left-9 c
 
 pub name-of-spec : {M : Type 1} → statement M
 name-of-spec =
@@ -115,4 +124,7 @@ name-of-spec =
     (λ c. search needs)
     (λ c κs. search needs)
     returns-8
-    returns-9)
+    (λ c. search needs)
+    (λ c κs. search needs)
+    returns-9
+    returns-10)

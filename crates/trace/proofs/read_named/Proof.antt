@@ -2,8 +2,8 @@
 -- Assumes nothing.
 use mathlib.Core.Path.{sym, _∙_}
 use Rattle.trace.specs.Lines.{named}
-use Rattle.trace.proofs.Events.{renamed, plainly, Plain, plain-start, plain-call, plain-entry, plain-non-delivery, plain-state}
-use Rattle.trace.proofs.Events.{Pageless, pageless-allow, Listless, listless-notice, listless-hand-back}
+use Rattle.trace.proofs.Events.{renamed, plainly, Plain, plain-start, plain-call, plain-entry, plain-non-delivery, plain-ask}
+use Rattle.trace.proofs.Events.{plain-state, Pageless, pageless-allow, Listless, listless-notice, listless-hand-back}
 use borrow.Author.Needs.{needs}
 use Rattle.trace.proofs.read_named.Statement.{statement}
 use Rattle.trace.proofs.read_named.Tie as tie
@@ -60,18 +60,27 @@ returns-7 c = (
 returns-8 : tie.Need-returns-8
 unfolding named
 returns-8 c = (
-  c .ended .ensures ∙ sym (renamed _ _ _ (c .before .enum-told8 .given .1)),
-  plainly Plain _ _ (c .ended .ensures) (plain-state _) _ _ _,
+  c .read-ask .ensures ∙ sym (renamed _ _ _ (c .before .enum-told8 .given .1)),
+  plainly Plain _ _ (c .read-ask .ensures) (plain-ask _) _ _ _,
 )
 
 returns-9 : tie.Need-returns-9
 unfolding named
-returns-9 c = (sym (renamed _ _ _ (c .enum-told9 .given .1)), (tt, tt))
+returns-9 c = (
+  c .ended .ensures ∙ sym (renamed _ _ _ (c .before .enum-told9 .given .1)),
+  plainly Plain _ _ (c .ended .ensures) (plain-state _) _ _ _,
+)
+
+returns-10 : tie.Need-returns-10
+unfolding named
+returns-10 c = (sym (renamed _ _ _ (c .enum-told10 .given .1)), (tt, tt))
 
 pub read-named-spec : {M : Type 1} → statement M
 read-named-spec =
     tie.close
     (tie.spec
+    (λ c. search needs)
+    (λ c κs. search needs)
     (λ c. search needs)
     (λ c κs. search needs)
     (λ c. search needs)
@@ -97,4 +106,5 @@ read-named-spec =
     returns-6
     returns-7
     returns-8
-    returns-9)
+    returns-9
+    returns-10)

@@ -87,6 +87,10 @@ module _ {M : Type 1} (𝓤 : URA M) (H : Heap 𝓤) (A : Atoms 𝓤) (W : Given
   non-delivery-arm i is-e = switches-on ! (load ! (from ! (vrt ! refl (fld ! refl (stop !)))) (look-tag ! 13 (whole !))) $
       exec ! (𝓣 .C) (𝓣 .Λ) En (nth-arm 3 s-1) (Then (event.NonDelivery i)) $ passes-on (event.NonDelivery i) is-e
 
+  pub ask-arm : (i : ℕ) → Matched (event.Ask i)
+  ask-arm i is-e = switches-on ! (load ! (from ! (vrt ! refl (fld ! refl (stop !)))) (look-tag ! 13 (whole !))) $
+      exec ! (𝓣 .C) (𝓣 .Λ) En (nth-arm 3 s-1) (Then (event.Ask i)) $ passes-on (event.Ask i) is-e
+
   pub state-arm : Matched event.State
   state-arm is-e = switches-on ! (load ! (from ! (vrt ! refl (fld ! refl (stop !)))) (look-tag ! 13 (whole !))) $
       exec ! (𝓣 .C) (𝓣 .Λ) En (nth-arm 3 s-1) (Then event.State) $ passes-on event.State is-e

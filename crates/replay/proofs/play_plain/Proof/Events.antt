@@ -2,7 +2,7 @@
 use Rattle.gate_mut.proofs.Walk.{refl, List, [], _∷_, ℕ, Bool, URA, w32, w64, Val, vint, vbool, SProp}
 use Rattle.gate_mut.proofs.Walk.{Heap, Tables, Atoms, Given, _$_, ! }
 use Rattle.gate_mut.proofs.Walk.{look, init, stop, hop, fld, from, load, lit, addr, of-opd, and-then, no-more, land, agg}
-use Rattle.gate_mut.proofs.Walk.{whole, look-in, uint-makes, bool-makes, u32, u64, bool, plain, yes, Triple}
+use Rattle.gate_mut.proofs.Walk.{whole, look-in, uint-makes, bool-makes, bool-tells, u32, u64, bool, plain, yes, Triple}
 use base.Logic.{id⊢, emp}
 use prog.Memory.{Memory}
 use prog.Routine.{Routine}
@@ -28,13 +28,15 @@ use Rattle.gate_mut_entries.proofs.entry_in as entry
 use Rattle.gate_mut_entries.proofs.entry_in.Symbol.{name as #entry}
 use Rattle.gate_mut_entries.proofs.non_delivery_in as non-delivery
 use Rattle.gate_mut_entries.proofs.non_delivery_in.Symbol.{name as #non-delivery}
+use Rattle.gate_mut_entries.proofs.would_present_in as asking
+use Rattle.gate_mut_entries.proofs.would_present_in.Symbol.{name as #asking}
 use Rattle.gate_mut_calls.proofs.call_in as calling
 use Rattle.gate_mut_calls.proofs.call_in.Symbol.{name as #calling}
 use Rattle.gate_mut.proofs.Answers.{machO, machP, typedO, typedP}
 use Rattle.gate_mut.proofs.Frame.{Blocks, var, sets}
 use Rattle.replay.proofs.Arms.{nth-arm}
 use Rattle.replay.proofs.Lend.{Lent}
-use Rattle.replay.proofs.OnModule.{modules}
+use Rattle.replay.proofs.OnModule.{modules, reads-module}
 use Rattle.replay.proofs.Values.{typedN}
 use Rattle.replay.proofs.play_plain.Code as code
 use Rattle.replay.proofs.play_plain.Code.Mir.{s-1, t-2}
@@ -57,38 +59,38 @@ module _ {M : Type 1} (𝓤 : URA M) (H : Heap 𝓤) (A : Atoms 𝓤) (W : Given
   abbrev Matched : Event → Type 1
   Matched = shape.Matched 𝓤 H A W memory run m h 𝓣 bs
 
-  -- the answer of an event that is none of the four
-  silent : (e : Event) → Sq W (At e) (runs (𝓣 .C) (𝓣 .Λ) En (nth-arm 4 s-1) (Then e))
+  -- the answer of what is none of the five
+  silent : (e : Event) → Sq W (At e) (runs (𝓣 .C) (𝓣 .Λ) En (nth-arm 5 s-1) (Then e))
   silent e =
       let is = EL.owes N.the-type N′.the-laws answer.Nothing tt in
-      assigns-last ! (agg ! (and-then ! (lit ! tt) (no-more !))) (from ! (stop !)) (init ! 17 refl (typedN 𝓤 H A W answer.Nothing is)) $
+      assigns-last ! (agg ! (and-then ! (lit ! tt) (no-more !))) (from ! (stop !)) (init ! 18 refl (typedN 𝓤 H A W answer.Nothing is)) $
       exec ! (𝓣 .C) (𝓣 .Λ) En t-2 (atRet En (Post′ e)) $
-      sets ! (of-opd ! (var ! 17 refl)) 2 refl (typedN 𝓤 H A W answer.Nothing is) $
+      sets ! (of-opd ! (var ! 18 refl)) 2 refl (typedN 𝓤 H A W answer.Nothing is) $
       shape.leaves 𝓤 H A W memory run m h 𝓣 bs e answer.Nothing is h refl
 
   pub nothing-arm : Matched event.Nothing
   nothing-arm is-e = switches-on ! (load ! (from ! (vrt ! refl (fld ! refl (stop !)))) (look-tag ! 4 (whole !))) $
-      exec ! (𝓣 .C) (𝓣 .Λ) En (nth-arm 4 s-1) (Then event.Nothing) $ silent event.Nothing
+      exec ! (𝓣 .C) (𝓣 .Λ) En (nth-arm 5 s-1) (Then event.Nothing) $ silent event.Nothing
 
   pub unreadable-arm : Matched event.Unreadable
   unreadable-arm is-e = switches-on ! (load ! (from ! (vrt ! refl (fld ! refl (stop !)))) (look-tag ! 4 (whole !))) $
-      exec ! (𝓣 .C) (𝓣 .Λ) En (nth-arm 4 s-1) (Then event.Unreadable) $ silent event.Unreadable
+      exec ! (𝓣 .C) (𝓣 .Λ) En (nth-arm 5 s-1) (Then event.Unreadable) $ silent event.Unreadable
 
   pub notice-arm : (i n : ℕ) → Matched (event.Notice i n)
   notice-arm i n is-e = switches-on ! (load ! (from ! (vrt ! refl (fld ! refl (stop !)))) (look-tag ! 4 (whole !))) $
-      exec ! (𝓣 .C) (𝓣 .Λ) En (nth-arm 4 s-1) (Then (event.Notice i n)) $ silent (event.Notice i n)
+      exec ! (𝓣 .C) (𝓣 .Λ) En (nth-arm 5 s-1) (Then (event.Notice i n)) $ silent (event.Notice i n)
 
   pub hand-back-arm : (i : ℕ) (x y : Bool) (n : ℕ) → Matched (event.HandBack i x y n)
   hand-back-arm i x y n is-e = switches-on ! (load ! (from ! (vrt ! refl (fld ! refl (stop !)))) (look-tag ! 4 (whole !))) $
-      exec ! (𝓣 .C) (𝓣 .Λ) En (nth-arm 4 s-1) (Then (event.HandBack i x y n)) $ silent (event.HandBack i x y n)
+      exec ! (𝓣 .C) (𝓣 .Λ) En (nth-arm 5 s-1) (Then (event.HandBack i x y n)) $ silent (event.HandBack i x y n)
 
   pub allow-arm : (i n z x : ℕ) → Matched (event.Allow i n z x)
   allow-arm i n z x is-e = switches-on ! (load ! (from ! (vrt ! refl (fld ! refl (stop !)))) (look-tag ! 4 (whole !))) $
-      exec ! (𝓣 .C) (𝓣 .Λ) En (nth-arm 4 s-1) (Then (event.Allow i n z x)) $ silent (event.Allow i n z x)
+      exec ! (𝓣 .C) (𝓣 .Λ) En (nth-arm 5 s-1) (Then (event.Allow i n z x)) $ silent (event.Allow i n z x)
 
   pub state-arm : Matched event.State
   state-arm is-e = switches-on ! (load ! (from ! (vrt ! refl (fld ! refl (stop !)))) (look-tag ! 4 (whole !))) $
-      exec ! (𝓣 .C) (𝓣 .Λ) En (nth-arm 4 s-1) (Then event.State) $ silent event.State
+      exec ! (𝓣 .C) (𝓣 .Λ) En (nth-arm 5 s-1) (Then event.State) $ silent event.State
 
   pub entry-arm : Triple 𝓤 (𝓣 .C #entry) (shape.Enters 𝓤 H A W memory run m h) → (i : ℕ) (x y z : Bool) → Matched (event.Entry i x y z)
   entry-arm known i x y z is-e =
@@ -103,7 +105,7 @@ module _ {M : Type 1} (𝓤 : URA M) (H : Heap 𝓤) (A : Atoms 𝓤) (W : Given
       (tt, tt) $
       sets ! (of-opd ! (load ! (from ! (vrt ! refl (fld ! {d = 10} refl (stop !)))) (look-in ! 4 (in-variant ! 5 3 {d = 10} refl refl (whole !))))) 15 refl
       (tt, tt) $
-      sets ! (addr ! (from ! (hop ! (look ! 3 refl) (stop !)))) 21 refl (tt, tt) $
+      sets ! (addr ! (from ! (hop ! (look ! 3 refl) (stop !)))) 22 refl (tt, tt) $
       modules 𝓤 H A W m h 𝓣 ! (plain (λ _. u32) ∷ plain (λ _. bool) ∷ plain (λ _. bool) ∷ plain (λ _. bool) ∷ [])
       (yes, (yes, (yes, (yes, tt)))) (plain (λ _. P.the-row)) (entry.clauses 𝓤 H A memory run) known
       (λ α. machP) (λ α. EL.tells P.the-type P′.the-laws) (λ α. (
@@ -112,13 +114,13 @@ module _ {M : Type 1} (𝓤 : URA M) (H : Heap 𝓤) (A : Atoms 𝓤) (W : Given
       ))
       (λ α. (i, (x, (y, (z, tt))))) (λ α. (vint w32 i ∷ [], (vbool x ∷ [], (vbool y ∷ [], (vbool z ∷ [], tt)))))
       (λ α. ((refl, i-fits), (refl, (refl, (refl, tt))))) (λ α γ₁. tt) (λ α γ₁. id⊢ 𝓤 (emp 𝓤))
-      (λ α γ₁ lent. and-then ! (var ! 21 refl) (and-then ! (var ! 12 refl) (and-then ! (var ! 13 refl)
+      (λ α γ₁ lent. and-then ! (var ! 22 refl) (and-then ! (var ! 12 refl) (and-then ! (var ! 13 refl)
       (and-then ! (var ! 14 refl) (and-then ! (var ! 15 refl) (no-more !)))))) (λ α a a-is h′.
       let is = EL.owes N.the-type N′.the-laws (answer.Presentation a) (a-is, tt) in
-      land ! (from ! (stop !)) (init ! 20 refl (typedP 𝓤 H A W a a-is)) $
-      assigns-last ! (agg ! (and-then ! (lit ! tt) (and-then ! (var ! 20 refl) (no-more !)))) (from ! (stop !))
-      (init ! 17 refl (typedN 𝓤 H A W (answer.Presentation a) is)) $ exec ! (𝓣 .C) (𝓣 .Λ) En t-2 (atRet En (Post′ e)) $
-      sets ! (of-opd ! (var ! 17 refl)) 2 refl (typedN 𝓤 H A W (answer.Presentation a) is) $
+      land ! (from ! (stop !)) (init ! 21 refl (typedP 𝓤 H A W a a-is)) $
+      assigns-last ! (agg ! (and-then ! (lit ! tt) (and-then ! (var ! 21 refl) (no-more !)))) (from ! (stop !))
+      (init ! 18 refl (typedN 𝓤 H A W (answer.Presentation a) is)) $ exec ! (𝓣 .C) (𝓣 .Λ) En t-2 (atRet En (Post′ e)) $
+      sets ! (of-opd ! (var ! 18 refl)) 2 refl (typedN 𝓤 H A W (answer.Presentation a) is) $
       shape.leaves 𝓤 H A W memory run m h 𝓣 bs e (answer.Presentation a) is h′ refl)
 
   pub non-delivery-arm : Triple 𝓤 (𝓣 .C #non-delivery) (shape.NonDelivers 𝓤 H A W memory run m h) → (i : ℕ) → Matched (event.NonDelivery i)
@@ -128,17 +130,36 @@ module _ {M : Type 1} (𝓤 : URA M) (H : Heap 𝓤) (A : Atoms 𝓤) (W : Given
       switches-on ! (load ! (from ! (vrt ! refl (fld ! refl (stop !)))) (look-tag ! 4 (whole !))) $ exec ! (𝓣 .C) (𝓣 .Λ) En (nth-arm 3 s-1) (Then e) $
       sets ! (of-opd ! (load ! (from ! (vrt ! refl (fld ! {d = 4} refl (stop !)))) (look-in ! 4 (in-variant ! 6 0 {d = 4} refl refl (whole !))))) 16 refl
       (tt, record { fits = i-fits }) $
-      sets ! (addr ! (from ! (hop ! (look ! 3 refl) (stop !)))) 23 refl (tt, tt) $
+      sets ! (addr ! (from ! (hop ! (look ! 3 refl) (stop !)))) 24 refl (tt, tt) $
       modules 𝓤 H A W m h 𝓣 ! (plain (λ _. u32) ∷ []) (yes, tt) (plain (λ _. O.the-row)) (non-delivery.clauses 𝓤 H A memory run) known
       (λ α. machO) (λ α. EL.tells O.the-type O′.the-laws) (λ α. (uint-makes 𝓤 H A W w32, tt)) (λ α. (i, tt)) (λ α. (vint w32 i ∷ [], tt))
       (λ α. ((refl, i-fits), tt)) (λ α γ₁. tt) (λ α γ₁. id⊢ 𝓤 (emp 𝓤))
-      (λ α γ₁ lent. and-then ! (var ! 23 refl) (and-then ! (var ! 16 refl) (no-more !))) (λ α a a-is h′.
+      (λ α γ₁ lent. and-then ! (var ! 24 refl) (and-then ! (var ! 16 refl) (no-more !))) (λ α a a-is h′.
       let is = EL.owes N.the-type N′.the-laws (answer.Outcome a) (a-is, tt) in
-      land ! (from ! (stop !)) (init ! 22 refl (typedO 𝓤 H A W a a-is)) $
-      assigns-last ! (agg ! (and-then ! (lit ! tt) (and-then ! (var ! 22 refl) (no-more !)))) (from ! (stop !))
-      (init ! 17 refl (typedN 𝓤 H A W (answer.Outcome a) is)) $ exec ! (𝓣 .C) (𝓣 .Λ) En t-2 (atRet En (Post′ e)) $
-      sets ! (of-opd ! (var ! 17 refl)) 2 refl (typedN 𝓤 H A W (answer.Outcome a) is) $
+      land ! (from ! (stop !)) (init ! 23 refl (typedO 𝓤 H A W a a-is)) $
+      assigns-last ! (agg ! (and-then ! (lit ! tt) (and-then ! (var ! 23 refl) (no-more !)))) (from ! (stop !))
+      (init ! 18 refl (typedN 𝓤 H A W (answer.Outcome a) is)) $ exec ! (𝓣 .C) (𝓣 .Λ) En t-2 (atRet En (Post′ e)) $
+      sets ! (of-opd ! (var ! 18 refl)) 2 refl (typedN 𝓤 H A W (answer.Outcome a) is) $
       shape.leaves 𝓤 H A W memory run m h 𝓣 bs e (answer.Outcome a) is h′ refl)
+
+  pub ask-arm : Triple 𝓤 (𝓣 .C #asking) (shape.Asks 𝓤 H A W memory run m h) → (i : ℕ) → Matched (event.Ask i)
+  ask-arm known i is-e =
+      let e : Event = event.Ask i in
+      let i-fits = EL.owed X.the-type X′.the-laws (event.Ask i) _ is-e .0 .1 in
+      switches-on ! (load ! (from ! (vrt ! refl (fld ! refl (stop !)))) (look-tag ! 4 (whole !))) $ exec ! (𝓣 .C) (𝓣 .Λ) En (nth-arm 4 s-1) (Then e) $
+      sets ! (of-opd ! (load ! (from ! (vrt ! refl (fld ! {d = 4} refl (stop !)))) (look-in ! 4 (in-variant ! 9 0 {d = 4} refl refl (whole !))))) 17 refl
+      (tt, record { fits = i-fits }) $
+      sets ! (addr ! (from ! (hop ! (look ! 3 refl) (stop !)))) 26 refl (tt, tt) $
+      reads-module 𝓤 H A W m h 𝓣 ! (plain (λ _. u32) ∷ []) (yes, tt) (plain (λ _. bool)) (asking.clauses 𝓤 H A memory run) known
+      (λ α. vbool) (λ α. bool-tells) (λ α. (uint-makes 𝓤 H A W w32, tt)) (λ α. (i, tt)) (λ α. (vint w32 i ∷ [], tt))
+      (λ α. ((refl, i-fits), tt)) (λ α γ₁. tt) (λ α γ₁. id⊢ 𝓤 (emp 𝓤))
+      (λ α lent. and-then ! (var ! 26 refl) (and-then ! (var ! 17 refl) (no-more !))) (λ α a a-is.
+      let is = EL.owes N.the-type N′.the-laws (answer.Asked a) (a-is, tt) in
+      land ! (from ! (stop !)) (init ! 25 refl (tt, tt)) $
+      assigns-last ! (agg ! (and-then ! (lit ! tt) (and-then ! (var ! 25 refl) (no-more !)))) (from ! (stop !))
+      (init ! 18 refl (typedN 𝓤 H A W (answer.Asked a) is)) $ exec ! (𝓣 .C) (𝓣 .Λ) En t-2 (atRet En (Post′ e)) $
+      sets ! (of-opd ! (var ! 18 refl)) 2 refl (typedN 𝓤 H A W (answer.Asked a) is) $
+      shape.leaves 𝓤 H A W memory run m h 𝓣 bs e (answer.Asked a) is h refl)
 
   pub call-arm : Triple 𝓤 (𝓣 .C #calling) (shape.Calls 𝓤 H A W memory run m h) → (i x y z : ℕ) → Matched (event.Call i x y z)
   call-arm known i x y z is-e =
@@ -156,7 +177,7 @@ module _ {M : Type 1} (𝓤 : URA M) (H : Heap 𝓤) (A : Atoms 𝓤) (W : Given
       (tt, record { fits = y-fits }) $
       sets ! (of-opd ! (load ! (from ! (vrt ! refl (fld ! {d = 16} refl (stop !)))) (look-in ! 4 (in-variant ! 4 3 {d = 16} refl refl (whole !))))) 11 refl
       (tt, record { fits = z-fits }) $
-      sets ! (addr ! (from ! (hop ! (look ! 3 refl) (stop !)))) 19 refl (tt, tt) $
+      sets ! (addr ! (from ! (hop ! (look ! 3 refl) (stop !)))) 20 refl (tt, tt) $
       modules 𝓤 H A W m h 𝓣 ! (plain (λ _. u32) ∷ plain (λ _. u32) ∷ plain (λ _. u32) ∷ plain (λ _. u64) ∷ [])
       (yes, (yes, (yes, (yes, tt)))) (plain (λ _. O.the-row)) (calling.clauses 𝓤 H A memory run) known
       (λ α. machO) (λ α. EL.tells O.the-type O′.the-laws) (λ α. (
@@ -165,11 +186,11 @@ module _ {M : Type 1} (𝓤 : URA M) (H : Heap 𝓤) (A : Atoms 𝓤) (W : Given
       ))
       (λ α. (i, (x, (y, (z, tt))))) (λ α. (vint w32 i ∷ [], (vint w32 x ∷ [], (vint w32 y ∷ [], (vint w64 z ∷ [], tt)))))
       (λ α. ((refl, i-fits), ((refl, x-fits), ((refl, y-fits), ((refl, z-fits), tt))))) (λ α γ₁. tt) (λ α γ₁. id⊢ 𝓤 (emp 𝓤))
-      (λ α γ₁ lent. and-then ! (var ! 19 refl) (and-then ! (var ! 8 refl) (and-then ! (var ! 9 refl)
+      (λ α γ₁ lent. and-then ! (var ! 20 refl) (and-then ! (var ! 8 refl) (and-then ! (var ! 9 refl)
       (and-then ! (var ! 10 refl) (and-then ! (var ! 11 refl) (no-more !)))))) (λ α a a-is h′.
       let is = EL.owes N.the-type N′.the-laws (answer.Outcome a) (a-is, tt) in
-      land ! (from ! (stop !)) (init ! 18 refl (typedO 𝓤 H A W a a-is)) $
-      assigns-last ! (agg ! (and-then ! (lit ! tt) (and-then ! (var ! 18 refl) (no-more !)))) (from ! (stop !))
-      (init ! 17 refl (typedN 𝓤 H A W (answer.Outcome a) is)) $ exec ! (𝓣 .C) (𝓣 .Λ) En t-2 (atRet En (Post′ e)) $
-      sets ! (of-opd ! (var ! 17 refl)) 2 refl (typedN 𝓤 H A W (answer.Outcome a) is) $
+      land ! (from ! (stop !)) (init ! 19 refl (typedO 𝓤 H A W a a-is)) $
+      assigns-last ! (agg ! (and-then ! (lit ! tt) (and-then ! (var ! 19 refl) (no-more !)))) (from ! (stop !))
+      (init ! 18 refl (typedN 𝓤 H A W (answer.Outcome a) is)) $ exec ! (𝓣 .C) (𝓣 .Λ) En t-2 (atRet En (Post′ e)) $
+      sets ! (of-opd ! (var ! 18 refl)) 2 refl (typedN 𝓤 H A W (answer.Outcome a) is) $
       shape.leaves 𝓤 H A W memory run m h 𝓣 bs e (answer.Outcome a) is h′ refl)

@@ -31,6 +31,7 @@ use Rattle.console.proofs.Answer.Laws as N′
 use Rattle.gate_start.proofs.start as start
 use Rattle.gate_mut_entries.proofs.entry_in as entry
 use Rattle.gate_mut_entries.proofs.non_delivery_in as non-delivery
+use Rattle.gate_mut_entries.proofs.would_present_in as asking
 use Rattle.gate_mut_calls.proofs.call_in as calling
 use Rattle.gate_mut.proofs.Frame.{Blocks, env, cells, deaths, contents, frees-all}
 use Rattle.replay.proofs.Lend.{Lent, spot, ref-of, Ref, Token}
@@ -72,6 +73,9 @@ module _ {M : Type 1} (𝓤 : URA M) (H : Heap 𝓤) (A : Atoms 𝓤) (W : Given
   abbrev pub NonDelivers : Contract 𝓤
   NonDelivers = tripleOf 𝓤 H A non-delivery.signature (non-delivery.spec 𝓤 H A memory run)
 
+  abbrev pub Asks : Contract 𝓤
+  Asks = tripleOf 𝓤 H A asking.signature (asking.spec 𝓤 H A memory run)
+
   abbrev pub Calls : Contract 𝓤
   Calls = tripleOf 𝓤 H A calling.signature (calling.spec 𝓤 H A memory run)
 
@@ -92,7 +96,7 @@ module _ {M : Type 1} (𝓤 : URA M) (H : Heap 𝓤) (A : Atoms 𝓤) (W : Given
     abbrev pub Matched : Event → Type 1
     Matched e = Is X.the-row e (machE e ∷ []) → Sq W (At e) (runs (𝓣 .C) (𝓣 .Λ) En s-1 (Then e))
 
-    -- the end of an arm: its value, in local 15, is copied into the result, which is returned
+    -- the end of an arm: its value, in local 16, is copied into the result, which is returned
     pub leaves : (e : Event) (r : Answer) → Is N.the-row r (machN r ∷ []) → (h′ : Module) {Γ : List (Item 𝓤)}
         → ‵ (fat fullShare (spotOf 𝓤 H En 0 .0) (spotOf 𝓤 H En 0 .1) 0 (machN r)) ∷ Γ ≡ cells (code.function .locals) bs (full (machN r) ∷ contents Γ) ++
         (raw (deaths H (code.function .locals) bs) ∷ [])

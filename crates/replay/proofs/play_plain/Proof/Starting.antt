@@ -78,7 +78,7 @@ module _ {M : Type 1} (𝓤 : URA M) (H : Heap 𝓤) (A : Atoms 𝓤) (W : Given
       cell-in ! (r .after) (m .block) (m .offset) m-is $ close-ref ! tt (mem T.the-row) (r .after) {b = m .block} {o = m .offset} $
       feqI ! (List Val) (vptr (m .block) (m .offset) ∷ []) (vptr (m .block) (m .offset) ∷ []) refl $ fjoin3 ! $
       assigns-last ! (agg ! (and-then ! (lit ! tt) (and-then ! (load ! (from ! (fld ! refl (stop !))) (look-in ! 7 (sub ! 0 refl (whole !))))
-      (no-more !)))) (from ! (stop !)) (init ! 17 refl (typedN 𝓤 H A W (answer.Outcome (r .outcome)) is)) $
+      (no-more !)))) (from ! (stop !)) (init ! 18 refl (typedN 𝓤 H A W (answer.Outcome (r .outcome)) is)) $
       exec ! (𝓣 .C) (𝓣 .Λ) En t-2 (atRet En (Post′ e)) $
-      sets ! (of-opd ! (var ! 17 refl)) 2 refl (typedN 𝓤 H A W (answer.Outcome (r .outcome)) is) $
+      sets ! (of-opd ! (var ! 18 refl)) 2 refl (typedN 𝓤 H A W (answer.Outcome (r .outcome)) is) $
       shape.leaves 𝓤 H A W memory run m h 𝓣 bs e (answer.Outcome (r .outcome)) is (r .after) refl)))

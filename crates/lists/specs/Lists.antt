@@ -1,20 +1,29 @@
 -- Lists of events: what they give, notices struck out, and lists that differ in bytes of notices alone (section 12).
 -- Assumes nothing.
 use mathlib.Core.Path.{_≡_}
-use mathlib.Core.Bool.{cond}
+use mathlib.Core.Bool.{Bool, false, cond}
 use mathlib.Core.List.{List, [], _∷_, map}
 use mathlib.Core.Option.{Option, none, some}
 use Prim.Native.Nat.{ℕ}
 use lib.ListN.{length}
 use Rattle.model.specs.declared.Module.{Module}
-use Rattle.model.specs.Codes.{Result}
+use Rattle.model.specs.Codes.{Result, done, counted, answers, coded, refused}
 use Rattle.model.specs.Events.{notice, at, Bytes, Event, Out, run}
 use Rattle.model.specs.Causes.{isHandBack}
 use Rattle.lists.specs.Book.{noticePage}
+use Rattle.vector_set.specs.Bits.{bitAt}
 
 -- the result of each event (12.5)
 unfoldable pub results : Module → List Event → List Result
 results m es = map (λ o. o .result) (run m es)
+
+-- the answer of an IPI names the vCPU k (7.20, 13.99)
+abbrev pub names : ℕ → Result → Bool
+names k (done r) = bitAt r k
+names k (counted a b) = false
+names k (answers a) = false
+names k (coded x ks) = false
+names k (refused c) = false
 
 -- of each hand-back the page after it
 unfoldable pub handBackPages : List Event → List Out → List Bytes

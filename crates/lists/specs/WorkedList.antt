@@ -21,7 +21,7 @@ use Rattle.lists.specs.Lists.{results, pages, struck, AllAlike}
 use Rattle.lists.specs.Ledger.{Ledger, ledgerOf}
 
 -- the list, on one vCPU
-abbrev story : List Event
+abbrev pub story : List Event
 story =
     at 0 (call 4 0x141 0)
     ∷ at 0 (notice byte64)
@@ -51,13 +51,13 @@ sameResult (answers a) r = answersBy (sameAnswer a) r
 sameResult (coded x ks) r = givesCodes x ks r
 sameResult (refused c) r = isRefused c r
 
-abbrev sameResults : List Result → List Result → Bool
+abbrev pub sameResults : List Result → List Result → Bool
 sameResults [] [] = true
 sameResults [] (s ∷ ss) = false
 sameResults (r ∷ rs) [] = false
 sameResults (r ∷ rs) (s ∷ ss) = sameResult r s && sameResults rs ss
 
-abbrev samePages : List (List ℕ) → List (List ℕ) → Bool
+abbrev pub samePages : List (List ℕ) → List (List ℕ) → Bool
 samePages [] [] = true
 samePages [] (q ∷ qs) = false
 samePages (p ∷ ps) [] = false
@@ -91,7 +91,7 @@ enters1 = at 1 (entry true false false)
 abbrev toAll : Event
 toAll = at 1 (call 3 0x830 0x84041)
 
-abbrev pair : List Event
+abbrev pub pair : List Event
 pair =
     at 0 (call 4 0x102 0)
     ∷ at 0 (notice (set announcing 65 0x01))
@@ -112,7 +112,7 @@ abbrev shownNmi : Result
 shownNmi = answers (presents item.Nmi)
 
 -- the tallies of x on j in a list on the module m: presented, admitted, sent, returned
-abbrev tellsOf : Module → List Event → ℕ → Item → List ℕ → Bool
+abbrev pub tellsOf : Module → List Event → ℕ → Item → List ℕ → Bool
 tellsOf m es j x ns =
     let g = ledgerOf m j x es in sameNumbers (g .presented ∷ g .admitted ∷ g .sent ∷ g .returned ∷ []) ns
 
@@ -138,7 +138,7 @@ paired =
 abbrev checkNotice : Event
 checkNotice = at 0 (notice (set announcing 65 0x02))
 
-abbrev checkStory : List Event
+abbrev pub checkStory : List Event
 checkStory =
     at 0 (call 4 0x112 0)
     ∷ checkNotice
@@ -171,7 +171,7 @@ checked =
 
 -- ---- lists of ECX values among other events (14.80)
 -- the first has 0x41 out and in, 30, and the NMI's member in
-abbrev valueStory : List Event
+abbrev pub valueStory : List Event
 valueStory =
     at 0 (allow (0x041 ∷ 0x141 ∷ 0x11E ∷ 0x102 ∷ []) (9 ∷ 9 ∷ 9 ∷ 9 ∷ 9 ∷ []))
     ∷ at 0 (allow [] byte64)

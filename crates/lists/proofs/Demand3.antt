@@ -4,26 +4,21 @@ use mathlib.Core.Path.{sym, ap, _∙_, subst}
 use mathlib.Core.List.{List}
 use Prim.Native.Nat.{ℕ, _≤_}
 use native.Mathlib.Omega.{arith}
-use Rattle.model.specs.declared.Phase.{Phase}
-use Rattle.model.specs.declared.Item.{Item}
-use Rattle.model.specs.declared.Item.the-variants as item
 use Rattle.model.specs.declared.Module.{Module}
-use Rattle.model.specs.State.{bare, vcpuAt, start}
-use Rattle.model.specs.Items.{InRange, pending}
+use Rattle.model.specs.State.{vcpuAt, start}
 use Rattle.model.specs.Doorbell.{admitted, items}
 use Rattle.model.specs.Events.{notice, at, Bytes, Event, effect, concluded, step, final}
 use Rattle.lists.specs.Book.{bookOf, partBy}
 use Rattle.lists.specs.Demand3.{bookAfter, Exact, FromAny, Demand3}
 use Rattle.vector_set.specs.Bits.{one}
-use Rattle.vector_set.proofs.Laws.{has-empty}
 use Rattle.model.proofs.NoticeCounts.{items-sum}
 use Rattle.model.proofs.Stored.{by-verdict}
 use Rattle.lists.proofs.Follow.{follow-all, struck-book, part-accepted, part-refused}
 use Rattle.model.proofs.Stays.{vmpl-final}
 use Rattle.lists.proofs.Alike.{alike}
 use Rattle.lists.proofs.Parts.{part-fits}
-use Rattle.lists.proofs.Bound.{bounded}
-use Rattle.model.proofs.Reached.{everywhere-start}
+use Rattle.lists.proofs.Invariant.{bounded}
+use Rattle.lists.proofs.Pending.{fresh-pending}
 
 -- ---- an accepted notice admits by the book what it admits by the record, and its numbers add up to that of its items; a refused one admits nothing
 exact-at : (m : Module) (i : ℕ) (p : Bytes)
@@ -57,15 +52,9 @@ isolated m =
     }
 
 -- ---- what start gives
-nothing-pending : (x : Item) → InRange x → (p : Phase) → one (pending x (bare p)) ≤ 0
-unfolding bare
-nothing-pending item.Nmi r p = omega arith
-nothing-pending item.MachineCheck r p = omega arith
-nothing-pending (item.Vector v) r p = rw (has-empty v r) (omega arith)
-
 pub demand3 : (n l : ℕ) → Demand3 n l
 demand3 n l =
     record {
       isolated = isolated (start n l);
-      most = λ es j x r. (let q = everywhere-start (λ v. one (pending x v) ≤ 0) (nothing-pending x r) n l j in omega (arith, q, bounded (start n l) es j x r));
+      most = λ es j x r. (let q = ap one (fresh-pending n l j x r) in omega (arith, q, bounded (start n l) es j x r));
     }

@@ -7,6 +7,9 @@ pub mod Alike
 pub mod Parts
 pub mod Pending
 pub mod Sends
-pub mod Bound
+pub mod Quiet
+pub mod Invariant
 pub mod Demand3
-pub mod ComputedList
+pub mod EventLaws
+pub mod Sums
+pub mod Computed

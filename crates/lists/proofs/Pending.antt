@@ -7,13 +7,14 @@ use Prim.Native.Nat.{ℕ, _+_, _-_, _≤_}
 use native.Mathlib.Omega.{arith}
 use lib.Dec.{ltb, leb, eqb}
 use borrow.Author.Tests.{eqb-true}
+use Rattle.model.specs.declared.Phase.{Phase}
 use Rattle.model.specs.declared.Item.{Item}
 use Rattle.model.specs.declared.Item.the-variants as item
 use Rattle.model.specs.declared.Target.{Target}
 use Rattle.model.specs.declared.Local.{Local}
 use Rattle.model.specs.declared.Local.the-variants as local
 use Rattle.model.specs.declared.Vcpu.{Vcpu}
-use Rattle.model.specs.State.{isActive}
+use Rattle.model.specs.State.{isActive, bare, vcpuAt, start}
 use Rattle.model.specs.Codes.{Answer, nothing, presents, window, presentedIn}
 use Rattle.model.specs.Items.{InRange, sameItem, isItem, itemInFlight, flightOf, pending, mark}
 use Rattle.model.specs.Doorbell.{Part, inPart}
@@ -25,8 +26,9 @@ use Rattle.lists.specs.Ledger.{tally}
 use Rattle.vector_set.specs.Bits.{one}
 use Rattle.vector_set.specs.Sets.{highest}
 use Rattle.vector_set.specs.Summaries.{inMarked}
-use Rattle.vector_set.proofs.Laws.{clash}
+use Rattle.vector_set.proofs.Laws.{clash, has-empty}
 use Rattle.vector_set.proofs.SummaryLaws.{marked-has}
+use Rattle.model.proofs.Reached.{everywhere-start}
 use Rattle.model.proofs.ItemLaws.{pending-mark, rest-mark, pending-markAll, rest-markAll}
 
 -- ---- what is pending at a record after each change
@@ -139,11 +141,22 @@ pub tally-is : (b : Bool) (n : ℕ) → tally b n ≡ n + one b
 tally-is true n = omega arith
 tally-is false n = omega arith
 
-pub or-le : (a b : Bool) → one (a || b) ≤ one a + one b
-or-le true b = omega arith
-or-le false b = omega arith
+-- brought, where it may wait: merged or new
+pub join-is : (b w p : Bool) → w ≡ p → one (b && w) + one (b || p) ≡ one b + one p
+join-is true w p e = rw e (omega arith)
+join-is false w p e = omega arith
 
 -- taken out where it was
 pub take-is : (t p : Bool) → (t ≡ true → p ≡ true) → one (not t && p) + one t ≡ one p
 take-is true p h = let e : p ≡ true = h refl in rw e
 take-is false p h = omega arith
+
+-- ---- what start gives has nothing pending
+none-pending : (x : Item) → InRange x → (p : Phase) → pending x (bare p) ≡ false
+unfolding bare
+none-pending item.Nmi r p = refl
+none-pending item.MachineCheck r p = refl
+none-pending (item.Vector v) r p = has-empty v r
+
+pub fresh-pending : (n l j : ℕ) (x : Item) → InRange x → pending x (vcpuAt (start n l) j) ≡ false
+fresh-pending n l j x r = everywhere-start (λ v. pending x v ≡ false) (none-pending x r) n l j

@@ -1,8 +1,9 @@
--- What a call sends, by what its numbers ask for, is no more than the ledger posts for its numbers.
+-- What a call sends, by what its numbers ask for, is what the ledger posts for its numbers, where it asks for anything.
 -- Assumes nothing.
-use mathlib.Core.Bool.{Bool, true, false, cond, _&&_, _||_}
-use Prim.Native.Nat.{ℕ, _≤_}
-use native.Mathlib.Omega.{arith}
+use mathlib.Core.Path.{_≡_, refl, _∙_, sym, ap}
+use mathlib.Core.Bool.{Bool, true, false, cond, _&&_, _||_, or-false}
+use Prim.Native.Nat.{ℕ}
+use borrow.Author.Tests.{eqb-true}
 use lib.Dec.{ltb, leb, eqb}
 use Rattle.model.specs.declared.Item.{Item}
 use Rattle.model.specs.declared.Item.the-variants as item
@@ -20,7 +21,7 @@ use Rattle.model.specs.Ipi.{icrLegal, icrItem, icrTarget, hits}
 use Rattle.model.specs.Requests.{bad, registration, readBy, writeValue, writeBy, nameable, permission, requestOf}
 use Rattle.lists.specs.Book.{Book, recordAt}
 use Rattle.lists.specs.Ledger.{reaches, writeSends}
-use Rattle.vector_set.specs.Bits.{one, bitAt}
+use Rattle.vector_set.specs.Bits.{bitAt}
 use Rattle.vector_set.specs.Sets.{isVector}
 use Rattle.lists.proofs.Pending.{gives}
 
@@ -30,70 +31,100 @@ sendsBy j x w i (request.Local o) = gives x o && (ltb j (w .n) && hits Caller i 
 sendsBy j x w i (request.Icr y) = reaches j x w i (icrItem y) (icrTarget y)
 sendsBy j x w i (request.Refused c) = false
 
-left-le : (a b : Bool) → one a ≤ one (a || b)
-left-le true b = omega arith
-left-le false b = omega arith
-
-right-le : (a b : Bool) → one b ≤ one (a || b)
-right-le true true = omega arith
-right-le true false = omega arith
-right-le false b = omega arith
+-- it asks for something
+abbrev pub asks : Request → Bool
+asks (request.Local o) = true
+asks (request.Icr y) = true
+asks (request.Refused c) = false
 
 module _ (j : ℕ) (x : Item) (w : Book) (i : ℕ) where
-  either-le : (b : Bool) (q r : Request) (n : ℕ) → one (sendsBy j x w i q) ≤ n → one (sendsBy j x w i r) ≤ n → one (sendsBy j x w i (cond b q r)) ≤ n
-  either-le true q r n g h = g
-  either-le false q r n g h = h
+  -- the request sends b, if it asks for anything
+  abbrev pub Sends : Bool → Request → Type 0
+  Sends b q = sendsBy j x w i q ≡ (asks q && b)
 
-  read-le : (k : Kind) (c n : ℕ) → one (sendsBy j x w i (readBy k c)) ≤ n
-  read-le kind.None c n = omega arith
-  read-le kind.Read c n = omega arith
-  read-le kind.Write c n = omega arith
-  read-le kind.Both c n = omega arith
+  sends-either : (t b : Bool) (q r : Request) → Sends b q → Sends b r → Sends b (cond t q r)
+  sends-either true b q r g h = g
+  sends-either false b q r g h = h
 
-  registration-le : (c n : ℕ) → one (sendsBy j x w i (registration c)) ≤ n
+  sends-read : (k : Kind) (c : ℕ) → Sends false (readBy k c)
+  sends-read kind.None c = refl
+  sends-read kind.Read c = refl
+  sends-read kind.Write c = refl
+  sends-read kind.Both c = refl
+
+  sends-registration : (c : ℕ) → Sends false (registration c)
   unfolding registration
-  registration-le c n =
-      either-le (eqb c 0) _ _ n (omega arith) (either-le (eqb c 1) _ _ n (omega arith) (either-le (eqb c 2) _ _ n (omega arith) (omega arith)))
+  sends-registration c =
+      sends-either (eqb c 0) false _ _ refl (sends-either (eqb c 1) false _ _ refl (sends-either (eqb c 2) false _ _ refl refl))
 
-  permission-le : (c n : ℕ) → one (sendsBy j x w i (permission c)) ≤ n
+  sends-permission : (c : ℕ) → Sends false (permission c)
   unfolding permission
-  permission-le c n = either-le (nameable c) _ _ n (either-le (bitAt c 8) _ _ n (omega arith) (omega arith)) (omega arith)
+  sends-permission c = sends-either (nameable c) false _ _ (sends-either (bitAt c 8) false _ _ refl refl) refl
 
-  -- the tests of the register as Bools: EOI, self-IPI, TPR, ICR
-  value-le : (c y : ℕ) → one (sendsBy j x w i (writeValue c y)) ≤ one (writeSends j x w i c y)
+  -- by the register: EOI, self-IPI, TPR, ICR, another
+  sends-value : (c y : ℕ) → Sends (writeSends j x w i c y) (writeValue c y)
   unfolding writeValue writeSends
-  value-le c y = pick (eqb c 0x80B) (eqb c 0x83F) (eqb c 0x808) (eqb c 0x830)
+  sends-value c y = pick (eqb c 0x80B) refl
     where
-      pick : (e s t k : Bool) → one (
-          sendsBy j x w i
-          (cond e (cond (eqb y 0) (request.Local local.Eoi) bad)
-          (cond s (cond (isVector y) (request.Local (local.SelfIpi y)) bad)
-          (cond t (cond (leb y 255) (request.Local (local.SetTpr y)) bad)
-          (cond k (cond (icrLegal y) (request.Icr y) bad) (request.Refused BadRegister)))))
-          )
-          ≤ one ((k && reaches j x w i (icrItem y) (icrTarget y)) || (s && reaches j x w i (item.Vector y) Caller))
-      pick true s t k = either-le (eqb y 0) _ _ _ (omega arith) (omega arith)
-      pick false true t k = either-le (isVector y) _ _ _ (right-le (k && reaches j x w i (icrItem y) (icrTarget y)) _) (omega arith)
-      pick false false true k = either-le (leb y 255) _ _ _ (omega arith) (omega arith)
-      pick false false false true = either-le (icrLegal y) _ _ _ (left-le (reaches j x w i (icrItem y) (icrTarget y)) false) (omega arith)
-      pick false false false false = omega arith
+      fourth : (b : Bool) → Sends ((b && reaches j x w i (icrItem y) (icrTarget y)) || false)
+          (cond b (cond (icrLegal y) (request.Icr y) bad) (request.Refused BadRegister))
+      fourth true = sends-either (icrLegal y) _ _ _ (sym (or-false (reaches j x w i (icrItem y) (icrTarget y)))) refl
+      fourth false = refl
 
-  write-le : (k : Kind) (c y : ℕ) → one (sendsBy j x w i (writeBy k c y)) ≤ one (writeSends j x w i c y)
-  write-le kind.None c y = omega arith
-  write-le kind.Read c y = omega arith
-  write-le kind.Write c y = value-le c y
-  write-le kind.Both c y = value-le c y
+      third : (b : Bool) → eqb c 0x808 ≡ b
+          → Sends ((eqb c 0x830 && reaches j x w i (icrItem y) (icrTarget y)) || false)
+          (cond b (cond (leb y 255) (request.Local (local.SetTpr y)) bad)
+          (cond (eqb c 0x830) (cond (icrLegal y) (request.Icr y) bad) (request.Refused BadRegister)))
+      third true e = rw (eqb-true c 0x808 e) (sends-either (leb y 255) false _ _ refl refl)
+      third false e = fourth (eqb c 0x830)
+
+      second : (b : Bool) → eqb c 0x83F ≡ b
+          → Sends ((eqb c 0x830 && reaches j x w i (icrItem y) (icrTarget y)) || (b && reaches j x w i (item.Vector y) Caller))
+          (cond b (cond (isVector y) (request.Local (local.SelfIpi y)) bad)
+          (cond (eqb c 0x808) (cond (leb y 255) (request.Local (local.SetTpr y)) bad)
+          (cond (eqb c 0x830) (cond (icrLegal y) (request.Icr y) bad) (request.Refused BadRegister))))
+      second true e = rw (eqb-true c 0x83F e) (sends-either (isVector y) (reaches j x w i (item.Vector y) Caller) _ _ refl refl)
+      second false e = third (eqb c 0x808) refl
+
+      pick : (b : Bool) → eqb c 0x80B ≡ b
+          → Sends ((eqb c 0x830 && reaches j x w i (icrItem y) (icrTarget y)) || (eqb c 0x83F && reaches j x w i (item.Vector y) Caller))
+          (cond b (cond (eqb y 0) (request.Local local.Eoi) bad)
+          (cond (eqb c 0x83F) (cond (isVector y) (request.Local (local.SelfIpi y)) bad)
+          (cond (eqb c 0x808) (cond (leb y 255) (request.Local (local.SetTpr y)) bad)
+          (cond (eqb c 0x830) (cond (icrLegal y) (request.Icr y) bad) (request.Refused BadRegister)))))
+      pick true e = rw (eqb-true c 0x80B e) (sends-either (eqb y 0) false _ _ refl refl)
+      pick false e = second (eqb c 0x83F) refl
+
+  sends-write : (k : Kind) (c y : ℕ) → Sends (writeSends j x w i c y) (writeBy k c y)
+  sends-write kind.None c y = refl
+  sends-write kind.Read c y = refl
+  sends-write kind.Write c y = sends-value c y
+  sends-write kind.Both c y = sends-value c y
 
   -- what the request that a call's numbers make sends, those numbers write
-  pub request-le : (op c y : ℕ) → one (sendsBy j x w i (requestOf op c y)) ≤ one (eqb op 3 && writeSends j x w i c y)
+  pub sends-request : (op c y : ℕ) → Sends (eqb op 3 && writeSends j x w i c y) (requestOf op c y)
   unfolding requestOf
-  request-le op c y =
-      either-le (eqb op 0) _ _ _ (omega arith)
-      (either-le (eqb op 1) _ _ _ (registration-le c _)
-      (either-le (eqb op 2) _ _ _ (read-le (kindOf c) c _) (pick (eqb op 3))))
+  sends-request op c y = first (eqb op 0) refl
     where
-      pick : (b : Bool)
-          → one (sendsBy j x w i (cond b (writeBy (kindOf c) c y) (cond (eqb op 4) (permission c) (request.Refused UnknownCall))))
-          ≤ one (b && writeSends j x w i c y)
-      pick true = write-le (kindOf c) c y
-      pick false = either-le (eqb op 4) _ _ _ (permission-le c _) (omega arith)
+      -- the tests from the fourth on
+      late : Bool → Request
+      late b = cond b (writeBy (kindOf c) c y) (cond (eqb op 4) (permission c) (request.Refused UnknownCall))
+
+      fourth : (b : Bool) → Sends (b && writeSends j x w i c y) (late b)
+      fourth true = sends-write (kindOf c) c y
+      fourth false = sends-either (eqb op 4) false _ _ (sends-permission c) refl
+
+      third : (b : Bool) → eqb op 2 ≡ b → Sends (eqb op 3 && writeSends j x w i c y) (cond b (readBy (kindOf c) c) (late (eqb op 3)))
+      third true e = rw (eqb-true op 2 e) (sends-read (kindOf c) c)
+      third false e = fourth (eqb op 3)
+
+      second : (b : Bool) → eqb op 1 ≡ b
+          → Sends (eqb op 3 && writeSends j x w i c y) (cond b (registration c) (cond (eqb op 2) (readBy (kindOf c) c) (late (eqb op 3))))
+      second true e = rw (eqb-true op 1 e) (sends-registration c)
+      second false e = third (eqb op 2) refl
+
+      first : (b : Bool) → eqb op 0 ≡ b
+          → Sends (eqb op 3 && writeSends j x w i c y)
+          (cond b (request.Local local.Features) (cond (eqb op 1) (registration c) (cond (eqb op 2) (readBy (kindOf c) c) (late (eqb op 3)))))
+      first true e = rw (eqb-true op 0 e) refl
+      first false e = second (eqb op 1) refl

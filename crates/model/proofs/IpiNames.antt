@@ -32,7 +32,7 @@ use Rattle.model.proofs.ItemLaws.{pending-mark, unmarked-mark}
 use Rattle.model.proofs.IcrWrites.{number-of, writtenAfter, by-answer}
 
 -- ---- what an IPI makes pending
-sent-in-range : (x : ℕ) → InRange (icrItem x)
+pub sent-in-range : (x : ℕ) → InRange (icrItem x)
 unfolding icrItem
 sent-in-range x = pick (eqb (icrType x) 4)
   where
@@ -135,7 +135,7 @@ self-gives : (m : Module) (i x : ℕ) → isVector x ≡ true
 unfolding effect callEffect concluded serve
 self-gives m i x e = let g : requestOf 3 0x83F x ≡ request.Local (local.SelfIpi x) = self-asked x ∙ rw e in (rw g, rw g)
 
-vector-small : (x : ℕ) → isVector x ≡ true → x < 256
+pub vector-small : (x : ℕ) → isVector x ≡ true → x < 256
 vector-small x e = pick (leb 31 x) (leb x 255) refl e
   where
     pick : (a b : Bool) → leb x 255 ≡ b → (a && b) ≡ true → x < 256
@@ -172,7 +172,7 @@ self-pending m i x k r l =
     same false = refl
 
 -- what is shown of its answer and of the module after it
-by-self : (m : Module) (i x r : ℕ) (P : ℕ → Module → Type 0)
+pub by-self : (m : Module) (i x r : ℕ) (P : ℕ → Module → Type 0)
     → (isVector x ≡ true → Known m i isActive → P (selfBits m i x) (selfAfter m i x))
     → step m (sendsSelf i x) .result ≡ done r → P r (next m (sendsSelf i x))
 by-self m i x r P h =

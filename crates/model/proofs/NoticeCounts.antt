@@ -64,7 +64,7 @@ became a v =
 first-of : {a b c d : ℕ} → counted a b ≡ counted c d → a ≡ c
 first-of e = cc
 
-second-of : {a b c d : ℕ} → counted a b ≡ counted c d → b ≡ d
+pub second-of : {a b c d : ℕ} → counted a b ≡ counted c d → b ≡ d
 second-of e = cc
 
 pub notice-new : (m : Module) (i : ℕ) (p : Bytes) (a b : ℕ) → step m (at i (notice p)) .result ≡ counted a b

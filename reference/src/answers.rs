@@ -121,7 +121,7 @@ fn reaches(book: &Book, sides: &Sides, ipi: &Ipi) -> Result<(), String> {
     Ok(())
 }
 
-fn require(held: bool, fault: &str) -> Result<(), String> {
+pub fn require(held: bool, fault: &str) -> Result<(), String> {
     if held {
         Ok(())
     } else {

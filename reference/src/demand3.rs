@@ -3,17 +3,19 @@
 //! (a) Isolation (13.20, 13.21), tried on a list and its twin.
 //! (b) The bound (13.26, 13.27). A list cut short is a list too, so it is checked at each event.
 //!
-//! With both goes what the answers say of pending items (13.25, 13.42 to 13.46), see `answers`.
+//! With both goes what the answers say of pending items (13.25, 13.42 to 13.46), see `answers`; and
+//! that the sums meet (13.88), see `sums_check`.
 
 use crate::answers;
 use crate::book::{Book, Entry};
 use crate::events::{ask, Answer, Event, Shown};
 use crate::generate;
-use crate::ipi::Ipi;
 use crate::page::{admitted, Admitted};
 use crate::random::Random;
 use crate::set::VectorSet;
 use crate::state::{start, Item, Module};
+use crate::sums::{Rules, Sums};
+use crate::sums_check;
 use crate::twin;
 
 /// Anything that answers events: the reference, or a wrong gate in a test of this check.
@@ -106,114 +108,41 @@ pub fn admitted_by_book(book: &Book, vmpl: u32, vcpu: u32, page: &[u8]) -> Admit
     }
 }
 
-/// For one vCPU: how many more times each item could be presented under the bound, and the item of
-/// its last accepted entry (12.22). Item 256 is the NMI, 257 the machine check.
-#[derive(Clone)]
-struct Account {
-    rest: Vec<i64>,
-    latest: Option<Item>,
-}
-
-struct Counts {
-    accounts: Vec<Account>,
-}
-
-fn place(item: Item) -> usize {
-    match item {
-        Item::Vector(v) => v,
-        Item::Nmi => 256,
-        Item::MachineCheck => 257,
-    }
-}
-
-impl Counts {
-    fn gain(&mut self, vcpu: u32, item: Item) {
-        self.accounts[vcpu as usize].rest[place(item)] += 1;
-    }
-
-    fn present(&mut self, vcpu: u32, shown: Shown) -> Result<(), String> {
-        let account = &mut self.accounts[vcpu as usize];
-        account.latest = None;
-        if let Shown::Presented(item) = shown {
-            account.latest = Some(item);
-            account.rest[place(item)] -= 1;
-            if account.rest[place(item)] < 0 {
-                return Err(format!("{item:?} presented too often on vCPU {vcpu}"));
-            }
-        }
+/// 13.26: only an entry can break the bound.
+fn bound(sums: &Sums, event: &Event, answer: &Answer) -> Result<(), String> {
+    let (Event::Entry { vcpu, .. }, Answer::Entry(Ok(Shown::Presented(item)))) = (event, answer)
+    else {
+        return Ok(());
+    };
+    let counts = sums.counts(*vcpu, *item);
+    if counts.presented <= counts.came() {
         Ok(())
-    }
-
-    /// 12.22
-    fn give_back(&mut self, vcpu: u32) -> Result<(), String> {
-        let Some(item) = self.accounts[vcpu as usize].latest else {
-            return Err(format!(
-                "a non-delivery accepted on vCPU {vcpu}, nothing presented"
-            ));
-        };
-        self.gain(vcpu, item);
-        Ok(())
-    }
-
-    /// 12.21: every target that is active in the book, whether the answer names it or not.
-    fn send(&mut self, book: &Book, ipi: &Ipi) {
-        for id in (0..book.n).filter(|&id| book.active(id) && ipi.targets(id)) {
-            self.gain(id, ipi.item);
-        }
-    }
-
-    /// 12.23
-    fn count(&mut self, book: &Book, vmpl: u32, e: &Event, a: &Answer) -> Result<(), String> {
-        match (e, a) {
-            (Event::Notice { vcpu, page }, _) => {
-                for item in admitted_by_book(book, vmpl, *vcpu, page).items() {
-                    self.gain(*vcpu, item);
-                }
-            }
-            (Event::Call { .. }, Answer::Call(Ok(_))) => {
-                if let Some(ipi) = Ipi::of(e) {
-                    self.send(book, &ipi);
-                }
-            }
-            (Event::Entry { vcpu, .. }, Answer::Entry(Ok(shown))) => self.present(*vcpu, *shown)?,
-            (Event::NonDelivery { vcpu }, Answer::NonDelivery(Ok(_))) => self.give_back(*vcpu)?,
-            _ => {}
-        }
-        Ok(())
+    } else {
+        Err(format!("{item:?} presented too often on vCPU {vcpu}"))
     }
 }
 
 /// Part (b) at every event of a list; gives the counts and the book after it.
-fn counted(list: &[Event], answers: &[Answer]) -> Result<(Counts, Book), String> {
-    let (mut book, vmpl) = opened(list);
-    let none = Account {
-        rest: vec![0; 258],
-        latest: None,
-    };
-    let mut counts = Counts {
-        accounts: vec![none; book.n as usize],
-    };
+fn counted(list: &[Event], answers: &[Answer]) -> Result<Sums, String> {
+    let (book, vmpl) = opened(list);
+    let mut sums = Sums::new(book, vmpl, Rules::RIGHT);
     for (index, (event, answer)) in list.iter().zip(answers).enumerate() {
-        counts
-            .count(&book, vmpl, event, answer)
+        sums.count(event, answer)
+            .and_then(|()| bound(&sums, event, answer))
             .map_err(|reason| format!("event {index}: {reason}"))?;
-        if let Some(entry) = entry_of(event) {
-            book.enter(&entry);
-        }
     }
-    Ok((counts, book))
+    Ok(sums)
 }
 
 /// How many more times the bound lets this item be presented there after the list.
-pub fn remaining(list: &[Event], played: &Played, vcpu: u32, item: Item) -> Result<i64, String> {
-    let (counts, _) = counted(list, &played.answers)?;
-    Ok(counts.accounts[vcpu as usize].rest[place(item)])
+pub fn remaining(list: &[Event], played: &Played, vcpu: u32, item: Item) -> Result<u64, String> {
+    let counts = counted(list, &played.answers)?.counts(vcpu, item);
+    Ok(counts.came() - counts.presented)
 }
 
 /// Part (b), and that book and module agree when the list is over (13.22).
 pub fn bounded(list: &[Event], played: &Played) -> Result<(), String> {
-    let (_, book) = counted(list, &played.answers)?;
-    if book == Book::of(&played.module) {
+    if counted(list, &played.answers)?.book == Book::of(&played.module) {
         Ok(())
     } else {
         Err("the book differs from the module at the end".to_string())
@@ -245,8 +174,8 @@ pub fn alike(first: &Played, second: &Played) -> Result<(), String> {
     Ok(())
 }
 
-/// Both parts for one list, and what its answers say of pending items; says how many notice pages the
-/// twin has changed.
+/// Both parts for one list, what its answers say of pending items, and its sums; says how many notice
+/// pages the twin has changed.
 pub fn check_list(list: &[Event], random: &mut Random, gate: Gate) -> Result<usize, String> {
     let (second, changed) = twin::twin(random, list);
     let (one, two) = (played(list, gate), played(&second, gate));
@@ -255,6 +184,8 @@ pub fn check_list(list: &[Event], random: &mut Random, gate: Gate) -> Result<usi
     bounded(&second, &two)?;
     answers::hold(list, gate)?;
     answers::hold(&second, gate)?;
+    sums_check::hold(list, gate, Rules::RIGHT)?;
+    sums_check::hold(&second, gate, Rules::RIGHT)?;
     Ok(changed)
 }
 
@@ -265,7 +196,7 @@ pub fn check(seed: u64, count: usize, gate: Gate) -> Result<String, String> {
     let mut changed = 0;
     for (index, list) in lists.iter().enumerate() {
         changed += check_list(list, &mut random, gate)
-            .map_err(|reason| format!("seed {seed}: demand 3 FAILS in list {index}: {reason}"))?;
+            .map_err(|reason| format!("seed {seed}: the check FAILS in list {index}: {reason}"))?;
     }
     let notices = lists
         .iter()
@@ -273,8 +204,8 @@ pub fn check(seed: u64, count: usize, gate: Gate) -> Result<String, String> {
         .filter(|e| matches!(e, Event::Notice { .. }))
         .count();
     Ok(format!(
-        "seed {seed}: demand 3 holds for {} lists of {count} events, {changed} of {notices} notice \
-         pages changed",
+        "seed {seed}: demand 3 and the sums hold for {} lists of {count} events, {changed} of \
+         {notices} notice pages changed",
         lists.len()
     ))
 }

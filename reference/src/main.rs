@@ -7,12 +7,14 @@ use reference::events::step;
 use reference::generate::generate;
 use reference::merging::Merging;
 use reference::play::play;
+use reference::sums_print;
 
 const USAGE: &str = "usage: reference play < TRACE > OUTPUT
        reference generate SEED COUNT > TRACE
        reference check SEED COUNT
        reference coverage < OUTPUT
-       reference merging < TRACE";
+       reference merging < TRACE
+       reference sums < TRACE";
 
 fn main() -> ExitCode {
     let arguments: Vec<String> = std::env::args().skip(1).collect();
@@ -44,6 +46,11 @@ fn run(arguments: &[String]) -> Result<bool> {
             let merging = Merging::of(stdin().lock())?;
             print!("{}", merging.report());
             Ok(merging.missing().is_empty())
+        }
+        ["sums"] => {
+            let report = sums_print::report(stdin().lock(), step)?;
+            print!("{}", report.text);
+            Ok(report.meets)
         }
         _ => Err(Error::new(ErrorKind::InvalidInput, USAGE)),
     }

@@ -1,6 +1,7 @@
 //! How often the requests of a trace meet what is pending, in service or in flight, and what becomes
-//! of machine checks, of lists of values and of questions. Answers alone do not tell whom an IPI reached, nor which item
-//! was admitted, so the trace is played.
+//! of machine checks, of lists of values, of questions, of returned items and of what a leaving vCPU
+//! has. Answers alone do not tell whom an IPI reached, nor which item was admitted, so the trace is
+//! played.
 
 use std::collections::BTreeMap;
 use std::io::{BufRead, Result};
@@ -10,6 +11,7 @@ use crate::events::{step, Answer, Event};
 use crate::ipi::Ipi;
 use crate::lines::Lines;
 use crate::machine_checks;
+use crate::outcomes;
 use crate::page::{admitted, Admitted};
 use crate::questions;
 use crate::state::{Item, Module, Phase, Record};
@@ -41,6 +43,7 @@ fn expected() -> Vec<&'static str> {
         &machine_checks::KINDS,
         &value_lists::KINDS,
         &questions::KINDS,
+        &outcomes::KINDS,
     ]
     .concat()
 }
@@ -98,7 +101,12 @@ fn kinds_of_line(module: &mut Module, last: &Line, line: &Line) -> Vec<String> {
     let before = module.clone();
     let answer = step(module, &mut event.clone());
     let mut found = questions::behind(last, event, &answer);
-    for kinds in [kinds, machine_checks::kinds, value_lists::kinds] {
+    for kinds in [
+        kinds,
+        machine_checks::kinds,
+        value_lists::kinds,
+        outcomes::kinds,
+    ] {
         found.extend(kinds(&before, event, &answer));
     }
     found

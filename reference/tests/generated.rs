@@ -12,6 +12,7 @@ use reference::generate::{generate, lists};
 use reference::ipi::Ipi;
 use reference::machine_checks;
 use reference::merging::{Merging, REQUESTS};
+use reference::outcomes;
 use reference::page::{admitted, announces, bit, clear_bit, set_bit};
 use reference::play::play_text;
 use reference::questions;
@@ -57,16 +58,17 @@ fn everything_occurs() {
 }
 
 /// Requests meet their item pending in every way, and often; so do questions (8.21 to 8.23) what they hang on;
-/// lists of values are of every kind (5.26).
+/// lists of values are of every kind (5.26), and so is what is returned and handed back (02, A7).
 #[test]
 fn merging_occurs() {
-    let mut of_lists = value_lists::KINDS.map(|kind| (kind, 0));
+    let rarer = [&value_lists::KINDS[..], &outcomes::KINDS].concat();
+    let mut rarer: Vec<(&str, u64)> = rarer.into_iter().map(|kind| (kind, 0)).collect();
     for seed in 0..4 {
         let trace = generated(seed, 15_000);
         let merging = Merging::of(&trace[..]).unwrap();
         let kinds = [&REQUESTS[..], &machine_checks::KINDS, &questions::KINDS].concat();
         assert!(merging.fewest(&kinds) >= 10, "{}", merging.report());
-        for (kind, count) in &mut of_lists {
+        for (kind, count) in &mut rarer {
             *count += merging.count(kind);
         }
         let coverage = Coverage::of(play_text(&trace).as_bytes()).unwrap();
@@ -74,8 +76,8 @@ fn merging_occurs() {
             assert!(coverage.count(kind) >= 100, "{}", coverage.report());
         }
     }
-    let often = of_lists.iter().all(|(_, count)| *count >= 15);
-    assert!(often, "{of_lists:?}");
+    let often = rarer.iter().all(|(_, count)| *count >= 15);
+    assert!(often, "{rarer:?}");
 }
 
 /// What a list leaves, said apart from call 4: of the accepted values for a vector the last one

@@ -8,14 +8,14 @@ use model::Outcome;
 use model::Refusal;
 use model::Stepped;
 
-// The code of a refusal (11.1 to 11.11, 11.21).
+// The code of a refusal (11.1 to 11.11, 11.21, 11.23).
 pub fn code(c: Refusal) -> u32
     ensures { λ r. ⌜ r ≡ codeOf c ⌝ }
 {
     match c {
         Refusal::UnknownVcpu => 1,
         Refusal::ShortPage => 2,
-        Refusal::NotLeaving => 3,
+        Refusal::StillActive => 3,
         Refusal::NothingInFlight => 4,
         Refusal::BadStart => 5,
         Refusal::NotActive => 0x8000_0001,
@@ -25,6 +25,7 @@ pub fn code(c: Refusal) -> u32
         Refusal::RegistrationsFull => 0x8000_0007,
         Refusal::NotRegistered => 0x8000_1000,
         Refusal::BadList => 6,
+        Refusal::HasLeft => 7,
     }
 }
 

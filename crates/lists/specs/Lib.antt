@@ -3,5 +3,7 @@ pub mod Lists
 pub mod Ledger
 pub mod Demand3
 pub mod Sums
+pub mod HandBacks
 pub mod WorkedList
 pub mod WorkedSums
+pub mod WorkedAttempts

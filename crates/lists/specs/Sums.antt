@@ -38,6 +38,7 @@ more es e = es ++ (e ∷ [])
 abbrev pub isAccepted : Module → Event → Bool
 isAccepted m e = accepted (step m e .result)
 
+-- its act asks for it (13.91)
 abbrev pub requestedBy : Module → ℕ → Item → ℕ → Act Bytes → Bool
 requestedBy m j x i (notice p) = eqb j i && inPart x (admitted (m .vmpl) (vcpuAt m i .allowed) p)
 requestedBy m j x i (call op c y) =
@@ -68,6 +69,7 @@ handsBackAt m j e = isHandBack (e .act) && isAccepted m e && eqb j (e .vcpu)
 -- what an event adds, from the ledger g to the ledger h. The Bools say whether it is a request, a return, a presentation and an accepted hand-back,
 -- and whether the item was pending before it
 pub record EventAdds (asks returns presents handsBack wasPending : Bool) (g h : Ledger) : Type 0 where
+  -- each grows by one where the event is one of them (13.91 to 13.93)
   pub requested : requests h ≡ requests g + one asks
   pub returned : h .returned ≡ g .returned + one returns
   pub presented : h .presented ≡ g .presented + one presents

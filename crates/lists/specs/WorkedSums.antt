@@ -74,7 +74,7 @@ unfoldable pub departed : List Bool
 departed =
     sameResults (results (start 2 1) departure)
     (coded 0 (0 ∷ 0 ∷ 0 ∷ 0 ∷ []) ∷ counted 1 0 ∷ shows 0x41 ∷ counted 1 0 ∷ done 0 ∷ refused 3 ∷ shows 0x41 ∷ counted 1 0 ∷ counted 1 0 ∷ counted 1 0
-    ∷ counted 1 0 ∷ done 0 ∷ shows 0x71 ∷ done 0 ∷ refused 0x80000001 ∷ done 2 ∷ refused 2 ∷ done 65537 ∷ refused 3 ∷ done 0 ∷ counted 0 0 ∷ [])
+    ∷ counted 1 0 ∷ done 0 ∷ shows 0x71 ∷ done 0 ∷ refused 0x80000001 ∷ done 2 ∷ refused 2 ∷ done 65537 ∷ refused 7 ∷ done 0 ∷ counted 0 0 ∷ [])
     ∷ samePages (pages (start 2 1) departure) (zeros ∷ [] ∷ set (set (set (set zeros 64 0x61) 65 0x44) 72 0x02) 104 0x02 ∷ zeros ∷ [])
     ∷ sumsOf (start 2 1) departure 0 (item.Vector 0x41) (4 ∷ 1 ∷ 2 ∷ 2 ∷ 1 ∷ 0 ∷ [])
     ∷ sumsOf (start 2 1) departure 0 (item.Vector 0x52) (1 ∷ 0 ∷ 0 ∷ 0 ∷ 1 ∷ 0 ∷ [])

@@ -10,7 +10,7 @@ use lib.ListN.{length}
 use Rattle.model.specs.declared.Kind.{Kind}
 use Rattle.model.specs.declared.Kind.the-variants as kind
 use Rattle.model.specs.declared.Module.{Module}
-use Rattle.model.specs.State.{isActive, isLeaving, isInFlight, vcpuAt}
+use Rattle.model.specs.State.{isActive, hasLeft, isInFlight, vcpuAt}
 use Rattle.vector_set.specs.Sets.{isVector}
 use Rattle.model.specs.Registers.{within, kindOf}
 use Rattle.model.specs.Ipi.{icrLegal}
@@ -137,12 +137,13 @@ numberCauses k (allow cs q) = []
 abbrev pub hasVcpu : Module → ℕ → Bool
 hasVcpu m i = leb (m .n) 32 && within 1 3 (m .vmpl) && ltb i (m .n)
 
--- of an event on a module value (11.1 to 11.4, 11.6, 11.12, 11.21, 11.22)
+-- of an event on a module value (11.1 to 11.4, 11.6, 11.12, 11.17, 11.21 to 11.24)
 unfoldable pub causes : Module → Event → List Cause
 causes m e =
     cause 1 (not (hasVcpu m (e .vcpu)))
     ∷ cause 0x80000001 (not (isHandBack (e .act)) && not (isActive (vcpuAt m (e .vcpu) .phase)))
-    ∷ cause 3 (isHandBack (e .act) && not (isLeaving (vcpuAt m (e .vcpu) .phase)))
+    ∷ cause 3 (isHandBack (e .act) && isActive (vcpuAt m (e .vcpu) .phase))
+    ∷ cause 7 (isHandBack (e .act) && hasLeft (vcpuAt m (e .vcpu) .phase))
     ∷ cause 6 (isBadList (e .act))
     ∷ cause 2 (isShort (e .act))
     ∷ cause 4 (isNonDelivery (e .act) && not (isInFlight (vcpuAt m (e .vcpu) .flight)))

@@ -7,8 +7,8 @@ use Prim.Native.Nat.{ℕ}
 use Rattle.model.specs.declared.Item.{Item}
 use Rattle.model.specs.declared.Item.the-variants as item
 use Rattle.model.specs.declared.Refusal.{Refusal}
-use Rattle.model.specs.declared.Refusal.the-variants.{UnknownVcpu, ShortPage, NotLeaving, NothingInFlight, BadStart, NotActive}
-use Rattle.model.specs.declared.Refusal.the-variants.{UnknownCall, BadRegister, BadParameter, RegistrationsFull, NotRegistered, BadList}
+use Rattle.model.specs.declared.Refusal.the-variants.{UnknownVcpu, ShortPage, StillActive, NothingInFlight, BadStart, NotActive}
+use Rattle.model.specs.declared.Refusal.the-variants.{UnknownCall, BadRegister, BadParameter, RegistrationsFull, NotRegistered, BadList, HasLeft}
 use Rattle.model.specs.declared.Outcome.{Outcome}
 use Rattle.model.specs.declared.Outcome.the-variants as outcome
 use Rattle.model.specs.declared.Admission.{Admission}
@@ -16,11 +16,11 @@ use Rattle.model.specs.declared.Admission.the-variants as admission
 use Rattle.model.specs.declared.Presentation.{Presentation}
 use Rattle.model.specs.declared.Presentation.the-variants as presentation
 
--- the table of codes (11.1 to 11.11, 11.21)
+-- the table of codes (11.1 to 11.11, 11.21, 11.23)
 abbrev pub codeOf : Refusal → ℕ
 codeOf UnknownVcpu = 1
 codeOf ShortPage = 2
-codeOf NotLeaving = 3
+codeOf StillActive = 3
 codeOf NothingInFlight = 4
 codeOf BadStart = 5
 codeOf NotActive = 0x80000001
@@ -30,6 +30,7 @@ codeOf BadParameter = 0x80000005
 codeOf RegistrationsFull = 0x80000007
 codeOf NotRegistered = 0x80001000
 codeOf BadList = 6
+codeOf HasLeft = 7
 
 -- ---- whether an event is accepted: the first test that fails refuses
 -- accepted, or refused for a cause (1.19)

@@ -1,15 +1,22 @@
--- Demand 1: nobody can stop the module (13.1 to 13.5). That every event ends is said by the functions' proofs.
+-- Demand 1: nobody can stop the module (13.1 to 13.5, 13.101, 13.102, 13.105, 13.106). That every event ends is said by the functions' proofs.
 -- Assumes nothing.
 use mathlib.Core.Path.{_≡_}
-use mathlib.Core.Bool.{Bool, false}
+use mathlib.Core.Bool.{Bool, true, false, cond}
 use mathlib.Core.List.{List}
-use Prim.Native.Nat.{ℕ, _<_}
+use mathlib.Core.Option.{Option, none, some}
+use Prim.Native.Nat.{ℕ, _<_, _≤_}
+use lib.Dec.{ltb}
+use lib.ListN.{length}
 use Rattle.model.specs.declared.Module.{Module}
-use Rattle.model.specs.State.{stopped}
+use Rattle.model.specs.State.{isActive, isLeaving, hasLeft, size, vcpuAt, stopped}
 use Rattle.model.specs.Codes.{refused, refusalOf}
 use Rattle.model.specs.Registers.{within}
 use Rattle.model.specs.Events.{notice, handBack, allow, at, Bytes, Event, pageOf, step, doStart}
-use Rattle.model.specs.Causes.{firstCause, causes, startCauses}
+use Rattle.model.specs.Causes.{isHandBack, firstCause, causes, startCauses}
+
+-- the code for a page of k bytes, if it is too short (11.2, 13.105)
+abbrev pub shortCode : ℕ → Option ℕ
+shortCode k = cond (ltb k 256) (some 2) none
 
 pub record Demand1 : Type 0 where
   -- the code is that of the first cause that holds, and an event is accepted where none does
@@ -32,3 +39,17 @@ pub record Demand1 : Type 0 where
   -- a value that start could not have given, by its n or its L, refuses every event with code 1
   pub tooMany : (m : Module) (e : Event) → 32 < m .n → step m e .result ≡ refused 1
   pub noLevel : (m : Module) (e : Event) → within 1 3 (m .vmpl) ≡ false → step m e .result ≡ refused 1
+  -- an event whose vCPU is not below n (13.106)
+  pub unknown : (m : Module) (e : Event) → size m ≤ e .vcpu → step m e .result ≡ refused 1
+  -- an event other than a hand-back on a vCPU below n that is leaving or has left, whatever its arguments (13.102)
+  pub inactive : (m : Module) (e : Event) → e .vcpu < size m → isActive (vcpuAt m (e .vcpu) .phase) ≡ false → isHandBack (e .act) ≡ false
+      → step m e .result ≡ refused 0x80000001
+  -- a hand-back of a vCPU below n, whatever IF and shadow: of an active one (13.101)
+  pub handBackOfActive : (m : Module) (i : ℕ) (p : Bytes) (iF sh : Bool) → i < size m → isActive (vcpuAt m i .phase) ≡ true
+      → step m (at i (handBack p iF sh)) .result ≡ refused 3
+  -- of one that has left (13.102)
+  pub handBackOfLeft : (m : Module) (i : ℕ) (p : Bytes) (iF sh : Bool) → i < size m → hasLeft (vcpuAt m i .phase) ≡ true
+      → step m (at i (handBack p iF sh)) .result ≡ refused 7
+  -- and of a leaving one: here alone the page counts (13.105)
+  pub handBackOfLeaving : (m : Module) (i : ℕ) (p : Bytes) (iF sh : Bool) → i < size m → isLeaving (vcpuAt m i .phase) ≡ true
+      → refusalOf (step m (at i (handBack p iF sh)) .result) ≡ shortCode (length p)

@@ -6,11 +6,12 @@ use mathlib.Core.Option.{Option, none, some, Option·getD}
 use Prim.Native.Nat.{ℕ, _+_, _*_}
 use lib.Dec.{leb, ltb, eqb}
 use lib.ListN.{length, drop, take}
+use Rattle.model.specs.declared.Phase.{Phase}
 use Rattle.model.specs.declared.Phase.the-variants.{Left}
 use Rattle.model.specs.declared.Item.{Item}
 use Rattle.model.specs.declared.Item.the-variants.{Nmi, MachineCheck, Vector}
 use Rattle.model.specs.declared.Refusal.{Refusal}
-use Rattle.model.specs.declared.Refusal.the-variants.{UnknownVcpu, ShortPage, NotLeaving, NothingInFlight, BadStart, NotActive, BadList}
+use Rattle.model.specs.declared.Refusal.the-variants.{UnknownVcpu, ShortPage, StillActive, HasLeft, NothingInFlight, BadStart, NotActive, BadList}
 use Rattle.model.specs.declared.Request.{Request}
 use Rattle.model.specs.declared.Request.the-variants as request
 use Rattle.model.specs.declared.Vcpu.{Vcpu}
@@ -150,13 +151,17 @@ handBackResult l tpr iF sh = l * 65536 + tpr * 256 + 2 * one sh + one iF
 abbrev pub listFits : List ℕ → List ℕ → Bool
 listFits cs q = leb (length cs) 256 && leb (length cs) (length q)
 
--- for the vCPU i below n with the record v, at the count k (4.2, 5.2, 5.31, 8.2, 9.2, 10.2, 11.13 to 11.18, 11.22)
+-- the refusal of a hand-back whose vCPU is not leaving: it is active still, or it has left (10.2, 11.3, 11.23)
+abbrev pub handBackRefusal : Phase → Refusal
+handBackRefusal s = cond (isActive s) StillActive HasLeft
+
+-- for the vCPU i below n with the record v, at the count k (4.2, 5.2, 5.31, 8.2, 9.2, 10.2, 11.13 to 11.18, 11.22, 11.24)
 unfoldable pub vcpuVerdict : ℕ → ℕ → Vcpu → Act Bytes → Verdict
 vcpuVerdict i k v (notice p) = need (isActive (v .phase)) NotActive (need (longEnough p) ShortPage accept)
 vcpuVerdict i k v (call op c x) = need (isActive (v .phase)) NotActive (callVerdict (requestOf op c x) i k (forget v))
 vcpuVerdict i k v (entry iF sh bl) = need (isActive (v .phase)) NotActive accept
 vcpuVerdict i k v nonDelivery = need (isActive (v .phase)) NotActive (need (isInFlight (v .flight)) NothingInFlight accept)
-vcpuVerdict i k v (handBack p iF sh) = need (isLeaving (v .phase)) NotLeaving (need (longEnough p) ShortPage accept)
+vcpuVerdict i k v (handBack p iF sh) = need (isLeaving (v .phase)) (handBackRefusal (v .phase)) (need (longEnough p) ShortPage accept)
 vcpuVerdict i k v (allow cs q) = need (isActive (v .phase)) NotActive (need (listFits cs q) BadList accept)
 
 -- the vCPU number before all else (11.1, 11.12)

@@ -16,3 +16,4 @@ pub mod WorkedChecks
 pub mod WorkedValues
 pub mod SummaryClaims
 pub mod WorkedSummaries
+pub mod WorkedHandBacks

@@ -26,6 +26,12 @@ isLeaving Active = false
 isLeaving Leaving = true
 isLeaving Left = false
 
+-- the phase is left (2.10)
+abbrev pub hasLeft : Phase → Bool
+hasLeft Active = false
+hasLeft Leaving = false
+hasLeft Left = true
+
 -- something is in flight (2.11)
 abbrev pub isInFlight : InFlight → Bool
 isInFlight Nothing = false
@@ -60,7 +66,7 @@ bare p = vcpu empty empty empty empty empty false false 0 0 p Nothing 0
 abbrev pub fresh : Vcpu
 fresh = bare Active
 
--- what stands in the array where the module has no record: a vCPU that has left (2.13)
+-- what stands in the array where the module has no vCPU: an empty record in the phase left (2.13)
 abbrev pub absent : Vcpu
 absent = bare Left
 

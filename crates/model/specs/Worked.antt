@@ -6,15 +6,14 @@ use mathlib.Core.List.{List, [], _∷_}
 use Prim.Native.Nat.{ℕ, zero, suc, _+_}
 use lib.Dec.{eqb}
 use lib.ListN.{replicate, set}
-use Rattle.model.specs.declared.Phase.{Phase}
-use Rattle.model.specs.declared.Phase.the-variants.{Active, Leaving, Left}
+use Rattle.model.specs.declared.Phase.the-variants.{Leaving}
 use Rattle.model.specs.declared.Item.{Item}
 use Rattle.model.specs.declared.Item.the-variants as item
 use Rattle.model.specs.declared.Vcpu.{Vcpu}
 use Rattle.model.specs.declared.Module.{Module}
 use Rattle.vector_set.specs.Sets.{empty, full, insert}
 use Rattle.model.specs.Items.{sameItem}
-use Rattle.model.specs.State.{vcpuAt, start, withVcpu, withAllowed, withIsr, withIrrLevel, withIsrLevel, withNmi, withMachineCheck}
+use Rattle.model.specs.State.{hasLeft, vcpuAt, start, withVcpu, withAllowed, withIsr, withIrrLevel, withIsrLevel, withNmi, withMachineCheck}
 use Rattle.model.specs.State.{withTpr, withPhase}
 use Rattle.model.specs.Codes.{Answer, nothing, presents, window, Result, done, counted, answers, coded, refused}
 use Rattle.model.specs.Registers.{kindOf}
@@ -126,11 +125,6 @@ nmiSent = next fresh2 (icr 0xC4400)
 
 abbrev handedRecord : Vcpu
 handedRecord = vcpuAt (next (having mixed) (at 0 (handBack ones false true))) 0
-
-abbrev hasLeft : Phase → Bool
-hasLeft Active = false
-hasLeft Leaving = false
-hasLeft Left = true
 
 -- ---- new and merged
 -- vCPU 0, with everything allowed, after a notice

@@ -72,7 +72,7 @@ pub enum Target {
 pub enum Refusal {
     UnknownVcpu,
     ShortPage,
-    NotLeaving,
+    StillActive,
     NothingInFlight,
     BadStart,
     NotActive,
@@ -82,6 +82,7 @@ pub enum Refusal {
     RegistrationsFull,
     NotRegistered,
     BadList,
+    HasLeft,
 }
 
 // A guest call that touches the caller's record and the registration count alone.

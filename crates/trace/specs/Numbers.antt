@@ -1,5 +1,5 @@
--- Numbers as a trace writes them: decimal digits, or `0x` and hexadecimal digits of either case; leading zeros are allowed, there is at
--- least one digit, and the value fits 64 bits.
+-- Numbers as a trace writes them: one or more decimal digits, or behind `0x` one or more hexadecimal ones, capital or small. Zeros may stand in
+-- front; the number is below 2^64.
 -- Assumes nothing.
 use mathlib.Core.Bool.{Bool, cond, _&&_}
 use mathlib.Core.List.{List, [], _∷_}

@@ -34,7 +34,7 @@ unfoldable pub stored : Cell → (ℕ → ℕ → Bytes) → Bytes
 stored (Byte o v) f = f o v
 stored Malformed f = garbled
 
--- the page p with the bytes that the words tell; where an offset comes twice the last one counts
+-- the page p with the bytes that the words tell, from first to last: of two for one offset the later stays
 unfoldable pub fill : ℕ → List (List ℕ) → List ℕ → Bytes
 fill long [] p = told p
 fill long (w ∷ ws) p = stored (cellOf long w) (λ o v. fill long ws (set p o v))

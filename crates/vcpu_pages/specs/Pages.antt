@@ -7,11 +7,12 @@ use Rattle.vcpu_pages.specs.declared.NoticeTaken.{NoticeTaken}
 use Rattle.model.specs.declared.Admission.{Admission}
 use Rattle.model.specs.declared.Admission.the-variants.{Items, Refused}
 use Rattle.model.specs.declared.Refusal.{Refusal}
-use Rattle.model.specs.declared.Refusal.the-variants.{NotActive, NotLeaving, ShortPage}
+use Rattle.model.specs.declared.Refusal.the-variants.{NotActive, ShortPage}
 use Rattle.model.specs.declared.Phase.{Phase}
 use Rattle.model.specs.State.{isActive, isLeaving}
 use Rattle.model.specs.Doorbell.{longEnough}
 use Rattle.model.specs.Codes.{codeOf, Verdict, accept, refuse, need, Result, done, refused}
+use Rattle.model.specs.Events.{handBackRefusal}
 use Rattle.descriptor.specs.Requests.{noRequest}
 use Rattle.doorbell.specs.declared.Taken.{Taken}
 
@@ -24,7 +25,7 @@ abbrev pub noticeVerdict : Phase → List ℕ → Verdict
 noticeVerdict s p = pageVerdict (isActive s) NotActive p
 
 abbrev pub handBackVerdict : Phase → List ℕ → Verdict
-handBackVerdict s p = pageVerdict (isLeaving s) NotLeaving p
+handBackVerdict s p = pageVerdict (isLeaving s) (handBackRefusal s) p
 
 -- ---- what a notice takes beside its marks
 -- it changes nothing, and is answered

@@ -3,7 +3,7 @@ ghost use mathlib.Core.Path.{_≡_};
 ghost use Prim.Native.Nat.{_≤_};
 ghost use Rattle.model.specs.Codes.{resultOf};
 ghost use Rattle.model.specs.Doorbell.{written};
-ghost use Rattle.model.specs.Events.{handBackResult, handed, emptied};
+ghost use Rattle.model.specs.Events.{handBackResult, handed, emptied, handBackRefusal};
 ghost use Rattle.vcpu.specs.Records.{pageOn};
 ghost use Rattle.vcpu_pages.specs.Pages.{handBackVerdict, handOn};
 use doorbell::PAGE_BYTES;
@@ -36,6 +36,16 @@ fn summary(vmpl: u32, tpr: u8, iflag: bool, shadow: bool) -> u64
     vmpl as u64 * 65536 + tpr as u64 * 256 + 2 * (shadow as u64) + iflag as u64
 }
 
+// The refusal of a hand-back whose vCPU is not leaving: it is active still, or has left (10.2, 11.3, 11.23).
+fn hand_back_refusal(phase: Phase) -> Refusal
+    ensures { λ r. ⌜ r ≡ handBackRefusal phase ⌝ }
+{
+    let Phase::Active = phase else {
+        return Refusal::HasLeft;
+    };
+    Refusal::StillActive
+}
+
 // What the record has pending and in service goes to the page (10.2 to 10.12); `empty_vcpu` is the record's step.
 pub fn hand_over(page: &mut [u8], vmpl: u32, v: Vcpu, iflag: bool, shadow: bool) -> Outcome
     requires { ⌜ (1 ≤ vmpl) × (vmpl ≤ 3) ⌝ }
@@ -44,7 +54,7 @@ pub fn hand_over(page: &mut [u8], vmpl: u32, v: Vcpu, iflag: bool, shadow: bool)
 {
     let phase = v.phase;
     let Phase::Leaving = phase else {
-        return Outcome::Refused(Refusal::NotLeaving);
+        return Outcome::Refused(hand_back_refusal(phase));
     };
     if page.len() < PAGE_BYTES {
         return Outcome::Refused(Refusal::ShortPage);

@@ -18,11 +18,13 @@ use Rattle.lists.specs.Book.{addsOne, registers, permits, permitsEach, c
 use Rattle.lists.specs.Lists.{results, handBackPages, pages, struck, same, notices, neither, both}
 use Rattle.lists.specs.Ledger.{writeSends, postAct, ledger}
 use Rattle.lists.specs.WorkedList.{listed, paired, checked, valued, judged, WorkedList}
+use Rattle.lists.specs.HandBacks.{handsBackIn}
+use Rattle.lists.specs.WorkedAttempts.{attempted, WorkedAttempts}
 use Rattle.lists.specs.WorkedSums.{sentTwice, departed, mergedEach, summed, WorkedSums}
 use Rattle.model.specs.Ipi.{icrReservedClear, icrIsFixed, icrIsNmi, icrLegal, icrItem, icrTarget, hits, reach, mapFrom, sent, newBits}
 
-all : WorkedList × WorkedSums
-unfolding listed paired checked valued sentTwice departed mergedEach summed permitsEach singleAfter listAfter listCodes judged
+all : WorkedList × WorkedSums × WorkedAttempts
+unfolding listed paired checked valued sentTwice departed mergedEach summed attempted handsBackIn permitsEach singleAfter listAfter listCodes judged
     parts bookOf recordAt withRecord withCount leavesAtZero takesOne addsOne registers permits called leaves feedAct
     partOn results handBackPages pages struck writeSends postAct ledger run final giveBack undelivered icrReservedClear icrIsFixed icrIsNmi icrLegal icrItem
     icrTarget hits reach mapFrom sent newBits itemCount itemsNew itemsMerged bits has words collect empty full insert remove union difference
@@ -43,6 +45,7 @@ all = (
     different = both (notices refl) (both same (both (notices refl) neither));
   },
   record { sentTwice = refl; departed = refl; mergedEach = refl; summed = refl },
+  record { attempted = refl },
 )
 
 pub worked-list : WorkedList
@@ -50,3 +53,6 @@ worked-list = all .0
 
 pub worked-sums : WorkedSums
 worked-sums = all .1
+
+pub worked-attempts : WorkedAttempts
+worked-attempts = all .2

@@ -6,7 +6,7 @@ use Prim.Native.Nat.{ℕ}
 use lib.Dec.{ltb}
 use Rattle.model.specs.declared.Phase.the-variants.{Left}
 use Rattle.model.specs.declared.Refusal.{Refusal}
-use Rattle.model.specs.declared.Refusal.the-variants.{UnknownVcpu, ShortPage, NotLeaving, NotActive, BadList}
+use Rattle.model.specs.declared.Refusal.the-variants.{UnknownVcpu, ShortPage, NotActive, BadList}
 use Rattle.model.specs.declared.Vcpu.{Vcpu}
 use Rattle.model.specs.declared.Module.{Module}
 use Rattle.model.specs.State.{isActive, isLeaving, size, vcpuAt, withVcpu, withRegistrations}
@@ -15,7 +15,7 @@ use Rattle.model.specs.Items.{itemInFlight, unmarkAll}
 use Rattle.model.specs.Doorbell.{longEnough, noPart, admitted}
 use Rattle.model.specs.Requests.{requestOf, forget}
 use Rattle.model.specs.Events.{Act, notice, call, entry, nonDelivery, handBack, allow, at, Bytes, Event, listFits, offer}
-use Rattle.model.specs.Events.{emptied, vcpuVerdict, verdict, listAfter, effect, concluded, next, final}
+use Rattle.model.specs.Events.{emptied, handBackRefusal, vcpuVerdict, verdict, listAfter, effect, concluded, next, final}
 use Rattle.model.specs.Demand2.{singles}
 use Rattle.lists.specs.Book.{note, Book, recordOf, bookOf, permits, permitsEach, called, leaves, feedAct, feed, feedAll, partOn, partBy}
 use Rattle.lists.specs.Lists.{struck}
@@ -74,9 +74,10 @@ follow-at m i nonDelivery =
 follow-at m i (handBack p iF sh) =
     by-verdict m (at i (handBack p iF sh)) (λ o. feed (bookOf m) (note (at i (handBack p iF sh))) ≡ bookOf (o .after))
     (λ d e. rw (record-book m i)
-    (not-three (ltb i (size m)) (isLeaving (vcpuAt m i .phase)) (longEnough p) UnknownVcpu NotLeaving ShortPage d _ _ e))
+    (not-three (ltb i (size m)) (isLeaving (vcpuAt m i .phase)) (longEnough p) UnknownVcpu (handBackRefusal (vcpuAt m i .phase)) ShortPage d _ _ e))
     (λ e. rw (record-book m i)
-    (all-three (ltb i (size m)) (isLeaving (vcpuAt m i .phase)) (longEnough p) UnknownVcpu NotLeaving ShortPage _ _ e ∙ follow-hand-back m i))
+    (all-three (ltb i (size m)) (isLeaving (vcpuAt m i .phase)) (longEnough p) UnknownVcpu (handBackRefusal (vcpuAt m i .phase)) ShortPage _ _ e
+    ∙ follow-hand-back m i))
 follow-at m i (allow cs q) =
     by-verdict m (at i (allow cs q)) (λ o. feed (bookOf m) (note (at i (allow cs q))) ≡ bookOf (o .after))
     (λ d e. rw (record-book m i)

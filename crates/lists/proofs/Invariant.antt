@@ -29,7 +29,8 @@ use Rattle.model.specs.Events.{Act, notice, call, entry, nonDelivery, handBack,
 use Rattle.model.specs.Events.{undelivered, emptied, vcpuVerdict, verdict, callEffect, listAfter, effect, concluded, step, next, run, final}
 use Rattle.lists.specs.Book.{bookOf, partBy}
 use Rattle.lists.specs.Lists.{results}
-use Rattle.lists.specs.Ledger.{Ledger, addAdmitted, addSent, addPresented, addReturned, addHandedBack, withLatest, requests, writeSends, postAct}
+use Rattle.lists.specs.Ledger.{afterArrival, Ledger, addAdmitted, addSent, addPresented, addReturned, addHandedBack, withLatest}
+use Rattle.lists.specs.Ledger.{requests, writeSends, postAct}
 use Rattle.lists.specs.Ledger.{ledger, opened, ledgerOf}
 use Rattle.vector_set.specs.Bits.{one, bitAt}
 use Rattle.model.proofs.Stored.{on-put, vcpuAt-count, size-put, count-same, vcpuAt-sent, by-verdict, Known, known-of, needed}
@@ -60,38 +61,31 @@ module _ (j : ℕ) (x : Item) (r : InRange x) (c : ℕ) where
     pub waits : g .waiting .waits ≡ pending x v
     pub follows : Follows (itemInFlight (v .flight)) (g .latest)
 
-  -- a record that gained b: admitted, sent or returned
-  keep-admitted : (b : Bool) (u v : Vcpu) (g : Ledger) → Like x b u v → Invariant u g → Invariant v (addAdmitted b g)
-  keep-admitted b u v g l h =
+  -- a record that gained b by a request, which the ledger h has beyond g
+  keep-asked : (b : Bool) (u v : Vcpu) (g h : Ledger) → requests h ≡ requests g + one b → h .returned ≡ g .returned → h .presented ≡ g .presented
+      → h .waiting ≡ afterArrival b (g .waiting) → h .latest ≡ g .latest → Like x b u v → Invariant u g → Invariant v h
+  keep-asked b u v g h a e f w t l q =
       record {
         balance =
-            rw (l .pends)
+            rw (l .pends, w)
             (omega (
               arith,
-              join-is b (g .waiting .waits) (pending x u) (h .waits),
-              tally-is b (g .admitted),
+              a,
+              e,
+              f,
+              join-is b (g .waiting .waits) (pending x u) (q .waits),
               tally-is (b && g .waiting .waits) (g .waiting .merged),
-              h .balance,
+              q .balance,
             ));
-        waits = rw (l .pends, h .waits);
-        follows = rw (l .inFlight) (h .follows);
+        waits = rw (l .pends, w, q .waits);
+        follows = rw (l .inFlight, t) (q .follows);
       }
 
+  keep-admitted : (b : Bool) (u v : Vcpu) (g : Ledger) → Like x b u v → Invariant u g → Invariant v (addAdmitted b g)
+  keep-admitted b u v g = keep-asked b u v g (addAdmitted b g) (omega (arith, tally-is b (g .admitted))) refl refl refl refl
+
   keep-sent : (b : Bool) (u v : Vcpu) (g : Ledger) → Like x b u v → Invariant u g → Invariant v (addSent b g)
-  keep-sent b u v g l h =
-      record {
-        balance =
-            rw (l .pends)
-            (omega (
-              arith,
-              join-is b (g .waiting .waits) (pending x u) (h .waits),
-              tally-is b (g .sent),
-              tally-is (b && g .waiting .waits) (g .waiting .merged),
-              h .balance,
-            ));
-        waits = rw (l .pends, h .waits);
-        follows = rw (l .inFlight) (h .follows);
-      }
+  keep-sent b u v g = keep-asked b u v g (addSent b g) (omega (arith, tally-is b (g .sent))) refl refl refl refl
 
   keep-alike : {a b : Bool} (v : Vcpu) (g : Ledger) → a ≡ b → Invariant v (addSent a g) → Invariant v (addSent b g)
   keep-alike v g e h = subst (λ (t : Bool). Invariant v (addSent t g)) e h

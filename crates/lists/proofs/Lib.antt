@@ -12,4 +12,5 @@ pub mod Invariant
 pub mod Demand3
 pub mod EventLaws
 pub mod Sums
+pub mod Leaves
 pub mod Computed

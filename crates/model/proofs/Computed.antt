@@ -19,10 +19,11 @@ use Rattle.model.specs.Worked.{further, Worked}
 use Rattle.model.specs.WorkedChecks.{checks, WorkedChecks}
 use Rattle.model.specs.WorkedValues.{values, WorkedValues}
 use Rattle.model.specs.WorkedSummaries.{summaries, WorkedSummaries}
+use Rattle.model.specs.WorkedHandBacks.{handBacks, WorkedHandBacks}
 use Rattle.model.specs.Ipi.{icrReservedClear, icrIsFixed, icrIsNmi, icrLegal, icrItem, icrTarget, hits, reach, mapFrom, sent, newBits}
 
-all : Worked × WorkedChecks × WorkedValues × WorkedSummaries
-unfolding Starred cases further checks values summaries
+all : Worked × WorkedChecks × WorkedValues × WorkedSummaries × WorkedHandBacks
+unfolding Starred cases further checks values summaries handBacks
     singleAfter listAfter listCodes giveBack undelivered icrReservedClear icrIsFixed icrIsNmi icrLegal icrItem
     icrTarget hits reach mapFrom sent newBits itemCount itemsNew itemsMerged bits has words collect empty full insert remove union difference
     highestBelow highest countBelow count isEmpty wordOf bare size vcpuAt started start stopped withVcpu withRegistrations mark unmark markAll
@@ -45,6 +46,7 @@ all = (
     entered = λ r. (refl, refl);
   },
   record { summaries = refl },
+  record { handBacks = refl },
 )
 
 pub worked : Worked
@@ -58,3 +60,6 @@ worked-values = all .2
 
 pub worked-summaries : WorkedSummaries
 worked-summaries = all .3
+
+pub worked-hand-backs : WorkedHandBacks
+worked-hand-backs = all .4

@@ -7,12 +7,12 @@ use native.Mathlib.Nat.{not-suc-le-zero}
 use lib.Dec.{leb, ltb}
 use lib.ListN.{length}
 use borrow.Author.Tests.{ltb-true, leb-true}
-use Rattle.model.specs.declared.Refusal.the-variants.{UnknownVcpu, ShortPage, NotLeaving}
+use Rattle.model.specs.declared.Refusal.the-variants.{UnknownVcpu, ShortPage}
 use Rattle.model.specs.declared.Module.{Module}
 use Rattle.model.specs.State.{isLeaving, size, vcpuAt, start}
 use Rattle.model.specs.Codes.{Verdict, accept, refuse, done}
 use Rattle.model.specs.Doorbell.{longEnough, admitted}
-use Rattle.model.specs.Events.{handBack, at, Bytes, vcpuVerdict, verdict, effect, concluded, decided, step, final}
+use Rattle.model.specs.Events.{handBack, at, Bytes, handBackRefusal, vcpuVerdict, verdict, effect, concluded, decided, step, final}
 use Rattle.model.specs.Demand2.{announce, pendingPart, ReadsBack, Demand2}
 use Rattle.vector_set.specs.Sets.{full}
 use Rattle.vector_set.proofs.Laws.{clash}
@@ -49,7 +49,7 @@ pub accepted-in : (m : Module) (i : ℕ) (p : Bytes) (iF sh : Bool) → verdict 
 unfolding verdict vcpuVerdict
 accepted-in m i p iF sh e =
     let a = needed (ltb i (size m)) UnknownVcpu _ e in
-    let b = needed (isLeaving (vcpuAt m i .phase)) NotLeaving _ (a .1) in
+    let b = needed (isLeaving (vcpuAt m i .phase)) (handBackRefusal (vcpuAt m i .phase)) _ (a .1) in
     (a .0, needed (longEnough p) ShortPage accept (b .1) .0)
 
 -- ---- the read-back

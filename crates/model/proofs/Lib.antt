@@ -19,6 +19,7 @@ pub mod IpiNames
 pub mod Presented
 pub mod ChecksApart
 pub mod ReadBack
+pub mod NumberCauses
 pub mod Demand1
 pub mod Demand2
 pub mod Computed

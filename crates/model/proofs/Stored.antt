@@ -13,7 +13,7 @@ use Rattle.model.specs.declared.Phase.{Phase}
 use Rattle.model.specs.declared.Phase.the-variants.{Left}
 use Rattle.model.specs.declared.Item.{Item}
 use Rattle.model.specs.declared.Refusal.{Refusal}
-use Rattle.model.specs.declared.Refusal.the-variants.{UnknownVcpu, NotActive, NotLeaving}
+use Rattle.model.specs.declared.Refusal.the-variants.{UnknownVcpu, NotActive}
 use Rattle.model.specs.declared.Target.{Target}
 use Rattle.model.specs.declared.Vcpu.{Vcpu}
 use Rattle.model.specs.declared.Module.{Module}
@@ -208,5 +208,5 @@ known-of m i (notice p) h = known m i isActive refl NotActive _ h
 known-of m i (call op c x) h = known m i isActive refl NotActive _ h
 known-of m i (entry iF sh bl) h = known m i isActive refl NotActive accept h
 known-of m i nonDelivery h = known m i isActive refl NotActive _ h
-known-of m i (handBack p iF sh) h = known m i isLeaving refl NotLeaving _ h
+known-of m i (handBack p iF sh) h = known m i isLeaving refl _ _ h
 known-of m i (allow cs q) h = known m i isActive refl NotActive _ h

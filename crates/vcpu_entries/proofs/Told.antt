@@ -33,15 +33,15 @@ after (refused c) v = v
 pub none-shown : (r : Presentation) (v : Vcpu) → OneOf (0 ∷ 4 ∷ []) (tagOf presentation.the-type r) → forget v ≡ after (presentedResult r) v
 unfolding entered
 none-shown shown.Nothing v e = refl
-none-shown shown.Nmi v (inl e) = clash (cc)
-none-shown shown.Nmi v (inr e) = clash (cc)
-none-shown shown.MachineCheck v (inl e) = clash (cc)
-none-shown shown.MachineCheck v (inr e) = clash (cc)
-none-shown (shown.Vector x) v (inl e) = clash (cc)
-none-shown (shown.Vector x) v (inr e) = clash (cc)
+none-shown shown.Nmi v (inl e) = clash (omega (arith, e))
+none-shown shown.Nmi v (inr e) = clash (omega (arith, e))
+none-shown shown.MachineCheck v (inl e) = clash (omega (arith, e))
+none-shown shown.MachineCheck v (inr e) = clash (omega (arith, e))
+none-shown (shown.Vector x) v (inl e) = clash (omega (arith, e))
+none-shown (shown.Vector x) v (inr e) = clash (omega (arith, e))
 none-shown (shown.Window x) v e = refl
-none-shown (shown.Refused c) v (inl e) = clash (cc)
-none-shown (shown.Refused c) v (inr e) = let z : ⊥ = omega (arith, e) in absurd z
+none-shown (shown.Refused c) v (inl e) = clash (omega (arith, e))
+none-shown (shown.Refused c) v (inr e) = clash (omega (arith, e))
 
 -- an answer that is not `Nothing`
 pub not-nothing : (r : Presentation) → OneOf (1 ∷ 2 ∷ 3 ∷ 4 ∷ 5 ∷ []) (tagOf presentation.the-type r) → r ≡ shown.Nothing → ⊥

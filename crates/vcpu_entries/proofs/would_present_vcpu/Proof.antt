@@ -3,6 +3,7 @@ use mathlib.Core.Path.{_≡_, refl, sym, ap, _∙_}
 use mathlib.Core.Bool.{true, false}
 use mathlib.Core.List.{[], _∷_}
 use mathlib.Core.Logic.{inl, inr}
+use native.Mathlib.Omega.{arith}
 use borrow.Author.Needs.{needs}
 use types.Run.{OneOf}
 use denote.Enum.Declared.{tagOf}
@@ -17,15 +18,15 @@ use Rattle.vcpu_entries.proofs.would_present_vcpu.Tie as tie
 
 none-presented : (r : Presentation) → OneOf (0 ∷ 4 ∷ 5 ∷ []) (tagOf presentation.the-type r) → false ≡ isSome (presentedBy (presentedResult r))
 none-presented shown.Nothing e = refl
-none-presented shown.Nmi (inl e) = clash (cc)
-none-presented shown.Nmi (inr (inl e)) = clash (cc)
-none-presented shown.Nmi (inr (inr e)) = clash (cc)
-none-presented shown.MachineCheck (inl e) = clash (cc)
-none-presented shown.MachineCheck (inr (inl e)) = clash (cc)
-none-presented shown.MachineCheck (inr (inr e)) = clash (cc)
-none-presented (shown.Vector x) (inl e) = clash (cc)
-none-presented (shown.Vector x) (inr (inl e)) = clash (cc)
-none-presented (shown.Vector x) (inr (inr e)) = clash (cc)
+none-presented shown.Nmi (inl e) = clash (omega (arith, e))
+none-presented shown.Nmi (inr (inl e)) = clash (omega (arith, e))
+none-presented shown.Nmi (inr (inr e)) = clash (omega (arith, e))
+none-presented shown.MachineCheck (inl e) = clash (omega (arith, e))
+none-presented shown.MachineCheck (inr (inl e)) = clash (omega (arith, e))
+none-presented shown.MachineCheck (inr (inr e)) = clash (omega (arith, e))
+none-presented (shown.Vector x) (inl e) = clash (omega (arith, e))
+none-presented (shown.Vector x) (inr (inl e)) = clash (omega (arith, e))
+none-presented (shown.Vector x) (inr (inr e)) = clash (omega (arith, e))
 none-presented (shown.Window x) e = refl
 none-presented (shown.Refused c) e = refl
 

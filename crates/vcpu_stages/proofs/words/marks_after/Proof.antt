@@ -26,17 +26,17 @@ forgotten b v = record { changes = b; nmi = v .nmi; «machine_check» = v .«mac
 none-shown : (r : Presentation) (v : Vcpu) → OneOf (0 ∷ 3 ∷ 4 ∷ []) (tagOf presentation.the-type r) → forgotten (isInFlight (v .flight)) v ≡ marksAfter r v
 unfolding marksAfter forgotten
 none-shown Nothing v e = refl
-none-shown Nmi v (inl e) = clash (cc)
-none-shown Nmi v (inr (inl e)) = clash (cc)
-none-shown Nmi v (inr (inr e)) = clash (cc)
-none-shown MachineCheck v (inl e) = clash (cc)
-none-shown MachineCheck v (inr (inl e)) = clash (cc)
-none-shown MachineCheck v (inr (inr e)) = clash (cc)
+none-shown Nmi v (inl e) = clash (omega (arith, e))
+none-shown Nmi v (inr (inl e)) = clash (omega (arith, e))
+none-shown Nmi v (inr (inr e)) = clash (omega (arith, e))
+none-shown MachineCheck v (inl e) = clash (omega (arith, e))
+none-shown MachineCheck v (inr (inl e)) = clash (omega (arith, e))
+none-shown MachineCheck v (inr (inr e)) = clash (omega (arith, e))
 none-shown (Vector x) v e = refl
 none-shown (Window x) v e = refl
-none-shown (Refused c) v (inl e) = clash (cc)
-none-shown (Refused c) v (inr (inl e)) = let z : ⊥ = omega (arith, e) in absurd z
-none-shown (Refused c) v (inr (inr e)) = let z : ⊥ = omega (arith, e) in absurd z
+none-shown (Refused c) v (inl e) = clash (omega (arith, e))
+none-shown (Refused c) v (inr (inl e)) = clash (omega (arith, e))
+none-shown (Refused c) v (inr (inr e)) = clash (omega (arith, e))
 
 returns : tie.Need-returns
 unfolding marksAfter

@@ -11,10 +11,11 @@ BEGIN {
 
     WHY["0x1"] = "no such vCPU"
     WHY["0x2"] = "page too short"
-    WHY["0x3"] = "not leaving"
+    WHY["0x3"] = "still active"
     WHY["0x4"] = "nothing in flight"
     WHY["0x5"] = "n or VMPL out of range"
     WHY["0x6"] = "over 256 values, or too few places for codes"
+    WHY["0x7"] = "has left"
     WHY["0x80000001"] = "not active"
     WHY["0x80000002"] = "no such call"
     WHY["0x80000003"] = "no such register for this"

@@ -6,14 +6,16 @@ pub type Code = u32;
 pub const UNKNOWN_VCPU: Code = 1;
 /// 11.2
 pub const SHORT_PAGE: Code = 2;
-/// 11.3
-pub const NOT_LEAVING: Code = 3;
+/// Of a hand-back: the vCPU is active (11.3)
+pub const STILL_ACTIVE: Code = 3;
 /// 11.4
 pub const NOTHING_IN_FLIGHT: Code = 4;
 /// 11.5
 pub const BAD_START: Code = 5;
 /// Of a list of values (11.21)
 pub const BAD_LIST: Code = 6;
+/// Of a hand-back: the vCPU has left (11.23)
+pub const HAS_LEFT: Code = 7;
 /// 11.6
 pub const NOT_ACTIVE: Code = 0x8000_0001;
 /// 11.7

@@ -6,7 +6,7 @@ use std::io::{BufRead, Result};
 use crate::lines::Lines;
 
 /// The lines that can be printed (`docs/REPLAY.md`, section 11), numbers left out but for codes.
-const EXPECTED: [&str; 41] = [
+const EXPECTED: [&str; 42] = [
     "start ok",
     "start refused 0x5",
     "notice ok, no item",
@@ -38,6 +38,7 @@ const EXPECTED: [&str; 41] = [
     "handback ok",
     "handback refused 0x1",
     "handback refused 0x3",
+    "handback refused 0x7",
     "handback refused 0x2",
     "allow ok",
     "allow refused 0x1",

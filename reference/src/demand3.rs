@@ -3,13 +3,15 @@
 //! (a) Isolation (13.20, 13.21), tried on a list and its twin.
 //! (b) The bound (13.26, 13.27). A list cut short is a list too, so it is checked at each event.
 //!
-//! With both goes what the answers say of pending items (13.25, 13.42 to 13.46), see `answers`; and
-//! that the sums meet (13.88), see `sums_check`.
+//! With both goes what the answers say of pending items (13.25, 13.42 to 13.46), see `answers`;
+//! that the sums meet (13.88), see `sums_check`; and which hand-backs get which code (13.103,
+//! 13.104), see `hand_backs`.
 
 use crate::answers;
 use crate::book::{Book, Entry};
 use crate::events::{ask, Answer, Event, Shown};
 use crate::generate;
+use crate::hand_backs;
 use crate::page::{admitted, Admitted};
 use crate::random::Random;
 use crate::set::VectorSet;
@@ -174,8 +176,8 @@ pub fn alike(first: &Played, second: &Played) -> Result<(), String> {
     Ok(())
 }
 
-/// Both parts for one list, what its answers say of pending items, and its sums; says how many notice
-/// pages the twin has changed.
+/// Both parts for one list, what its answers say of pending items, its sums and the codes of its
+/// hand-backs; says how many notice pages the twin has changed.
 pub fn check_list(list: &[Event], random: &mut Random, gate: Gate) -> Result<usize, String> {
     let (second, changed) = twin::twin(random, list);
     let (one, two) = (played(list, gate), played(&second, gate));
@@ -186,6 +188,8 @@ pub fn check_list(list: &[Event], random: &mut Random, gate: Gate) -> Result<usi
     answers::hold(&second, gate)?;
     sums_check::hold(list, gate, Rules::RIGHT)?;
     sums_check::hold(&second, gate, Rules::RIGHT)?;
+    hand_backs::hold(list, &one.answers)?;
+    hand_backs::hold(&second, &two.answers)?;
     Ok(changed)
 }
 
@@ -204,8 +208,8 @@ pub fn check(seed: u64, count: usize, gate: Gate) -> Result<String, String> {
         .filter(|e| matches!(e, Event::Notice { .. }))
         .count();
     Ok(format!(
-        "seed {seed}: demand 3 and the sums hold for {} lists of {count} events, {changed} of \
-         {notices} notice pages changed",
+        "seed {seed}: demand 3, the sums and the codes of hand-backs hold for {} lists of {count} \
+         events, {changed} of {notices} notice pages changed",
         lists.len()
     ))
 }

@@ -1,7 +1,7 @@
 //! The events (sections 4 and 8 to 10); guest calls are in `calls`.
 
 use crate::calls;
-use crate::codes::{Code, BAD_LIST, NOTHING_IN_FLIGHT, NOT_LEAVING};
+use crate::codes::{Code, BAD_LIST, HAS_LEFT, NOTHING_IN_FLIGHT, STILL_ACTIVE};
 use crate::page;
 use crate::registers::{class, ppr};
 use crate::set::VectorSet;
@@ -85,6 +85,21 @@ pub enum Answer {
     NonDelivery(Result<u32, Code>),
     HandBack(Result<u32, Code>),
     Allow(Result<u32, Code>),
+}
+
+impl Answer {
+    /// The code, if the event was refused.
+    pub fn refusal(&self) -> Option<Code> {
+        match *self {
+            Answer::Start(answer) => answer.err(),
+            Answer::Notice(answer) => answer.err(),
+            Answer::Call(answer) => answer.err(),
+            Answer::Entry(answer) => answer.err(),
+            Answer::NonDelivery(answer) | Answer::HandBack(answer) | Answer::Allow(answer) => {
+                answer.err()
+            }
+        }
+    }
 }
 
 /// One step (1.1). The page or second list is a part of the event and is changed there.
@@ -245,7 +260,7 @@ fn give_back(record: &mut Record, v: usize) {
     }
 }
 
-/// 10.2, 10.12 to 10.14
+/// 10.2, 10.12 to 10.14; the order of its checks is 11.17.
 pub fn hand_back(
     m: &mut Module,
     vcpu: u32,
@@ -254,8 +269,10 @@ pub fn hand_back(
     shadow: bool,
 ) -> Result<u32, Code> {
     m.known(vcpu)?;
-    if m.record(vcpu).phase != Phase::Leaving {
-        return Err(NOT_LEAVING);
+    match m.record(vcpu).phase {
+        Phase::Active => return Err(STILL_ACTIVE),
+        Phase::Left => return Err(HAS_LEFT),
+        Phase::Leaving => {}
     }
     page::long_enough(page)?;
 

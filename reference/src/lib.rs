@@ -11,6 +11,7 @@ pub mod coverage;
 pub mod demand3;
 pub mod events;
 pub mod generate;
+pub mod hand_backs;
 pub mod icr;
 pub mod ipi;
 pub mod lines;

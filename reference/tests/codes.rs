@@ -2,10 +2,14 @@
 
 mod common;
 
+use std::collections::BTreeSet;
+
+use common::hand_backs::{others, table};
 use common::*;
 use reference::calls::call;
 use reference::codes::*;
-use reference::events::{allow, entry, hand_back, non_delivery, notice};
+use reference::events::{allow, entry, hand_back, non_delivery, notice, step, Answer, Event};
+use reference::generate::lists;
 use reference::registers::{kind, Kind};
 use reference::state::{Module, Phase};
 
@@ -127,36 +131,38 @@ fn what_call_4_takes() {
     }
 }
 
-/// 11.12 to 11.17, 11.19, 11.21, 11.22
+/// 11.12 to 11.17, 11.19, 11.21 to 11.23
 #[test]
 fn the_order_of_the_checks() {
-    let mut m = fresh(2, 1);
+    let mut m = fresh(3, 1);
     m.records[1].phase = Phase::Leaving;
+    m.records[2].phase = Phase::Left;
     let before = m.clone();
     let short = &mut [0u8; 255];
-    assert_eq!(notice(&mut m, 2, short), Err(UNKNOWN_VCPU));
+    assert_eq!(notice(&mut m, 3, short), Err(UNKNOWN_VCPU));
     assert_eq!(notice(&mut m, 1, short), Err(NOT_ACTIVE));
     assert_eq!(notice(&mut m, 0, short), Err(SHORT_PAGE));
-    assert_eq!(hand_back(&mut m, 2, short, true, true), Err(UNKNOWN_VCPU));
-    assert_eq!(hand_back(&mut m, 0, short, true, true), Err(NOT_LEAVING));
+    assert_eq!(hand_back(&mut m, 3, short, true, true), Err(UNKNOWN_VCPU));
+    assert_eq!(hand_back(&mut m, 0, short, true, true), Err(STILL_ACTIVE));
+    assert_eq!(hand_back(&mut m, 2, short, true, true), Err(HAS_LEFT));
     assert_eq!(hand_back(&mut m, 1, short, true, true), Err(SHORT_PAGE));
-    assert_eq!(non_delivery(&mut m, 2), Err(UNKNOWN_VCPU));
+    assert_eq!(non_delivery(&mut m, 3), Err(UNKNOWN_VCPU));
     assert_eq!(non_delivery(&mut m, 1), Err(NOT_ACTIVE));
     assert_eq!(non_delivery(&mut m, 0), Err(NOTHING_IN_FLIGHT));
-    assert_eq!(entry(&mut m, 2, true, false, false), Err(UNKNOWN_VCPU));
+    assert_eq!(entry(&mut m, 3, true, false, false), Err(UNKNOWN_VCPU));
     assert_eq!(entry(&mut m, 1, true, false, false), Err(NOT_ACTIVE));
-    assert_eq!(call(&mut m, 2, 5, 0x7FF, u64::MAX), Err(UNKNOWN_VCPU));
+    assert_eq!(call(&mut m, 3, 5, 0x7FF, u64::MAX), Err(UNKNOWN_VCPU));
     assert_eq!(call(&mut m, 1, 5, 0x7FF, u64::MAX), Err(NOT_ACTIVE));
     assert_eq!(call(&mut m, 0, 5, 0x7FF, u64::MAX), Err(UNKNOWN_CALL));
     assert_eq!(call(&mut m, 0, 3, 0x7FF, u64::MAX), Err(BAD_REGISTER));
     assert_eq!(call(&mut m, 0, 3, 0x802, 0), Err(BAD_VALUE));
-    assert_eq!(allow(&mut m, 2, &[0x11E], &mut []), Err(UNKNOWN_VCPU));
+    assert_eq!(allow(&mut m, 3, &[0x11E], &mut []), Err(UNKNOWN_VCPU));
     assert_eq!(allow(&mut m, 1, &[0x11E], &mut []), Err(NOT_ACTIVE));
     assert_eq!(allow(&mut m, 0, &[0x11E], &mut []), Err(BAD_LIST));
     assert_eq!(m, before);
 }
 
-/// 11.3, 11.6
+/// 11.6, 11.23, 11.24
 #[test]
 fn no_event_works_on_a_vcpu_that_has_left() {
     let mut m = fresh(2, 1);
@@ -167,11 +173,64 @@ fn no_event_works_on_a_vcpu_that_has_left() {
     assert_eq!(entry(&mut m, 0, true, false, false), Err(NOT_ACTIVE));
     assert_eq!(non_delivery(&mut m, 0), Err(NOT_ACTIVE));
     assert_eq!(allow(&mut m, 0, &[], &mut []), Err(NOT_ACTIVE));
-    assert_eq!(
-        hand_back(&mut m, 0, &mut page(&[]), true, true),
-        Err(NOT_LEAVING)
-    );
+    let again = hand_back(&mut m, 0, &mut page(&[]), true, true);
+    assert_eq!(again, Err(HAS_LEFT));
     assert_eq!(m, before);
+}
+
+/// 10.2, 11.3, 11.17, 11.23, 13.101, 13.102: every phase, length, IF and shadow.
+#[test]
+fn the_codes_of_hand_backs() {
+    assert_eq!(table(step), Ok(()));
+}
+
+/// 11.24, 13.102
+#[test]
+fn the_codes_of_other_events_on_a_vcpu_that_has_left() {
+    assert_eq!(others(step), Ok(()));
+}
+
+/// 11.3: leaving is each vCPU's own. With the count at 0 and the others gone, one is still active.
+#[test]
+fn still_active_with_none_registered() {
+    let mut m = fresh(2, 1);
+    assert_eq!(call(&mut m, 0, 1, DEREGISTER, 0), Ok(0));
+    assert!(hand_back(&mut m, 0, &mut page(&[]), true, false).is_ok());
+    assert_eq!(m.count, 0);
+    let before = m.clone();
+    let early = hand_back(&mut m, 1, &mut page(&[]), true, false);
+    assert_eq!((early, &m), (Err(STILL_ACTIVE), &before));
+    assert_eq!(call(&mut m, 1, 0, 0, 0), Ok(0));
+    assert_eq!(call(&mut m, 1, 1, LEAVE, 0), Ok(0));
+    assert!(hand_back(&mut m, 1, &mut page(&[]), true, false).is_ok());
+}
+
+/// 13.103, by the module itself: behind every event those have left that had at first, here vCPU 0
+/// or nobody, and those with an accepted hand-back.
+#[test]
+fn who_has_left() {
+    let mut accepted = 0;
+    for (index, list) in lists(6, 20_000).into_iter().enumerate() {
+        let mut m = Module::refused();
+        let mut left = BTreeSet::new();
+        for mut event in list {
+            let answer = step(&mut m, &mut event);
+            match (&event, answer) {
+                (Event::Start { .. }, Answer::Start(Ok(()))) if index % 2 == 0 => {
+                    m.records[0].phase = Phase::Left;
+                    left.insert(0);
+                }
+                (Event::HandBack { vcpu, .. }, Answer::HandBack(Ok(_))) => {
+                    assert!(left.insert(*vcpu), "once only");
+                    accepted += 1;
+                }
+                _ => {}
+            }
+            let gone = |&vcpu: &u32| m.record(vcpu).phase == Phase::Left;
+            assert_eq!((0..m.n).filter(gone).collect::<BTreeSet<u32>>(), left);
+        }
+    }
+    assert!(accepted >= 50, "{accepted}");
 }
 
 /// 5.5, 5.6

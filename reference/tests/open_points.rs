@@ -331,7 +331,7 @@ fn what_forgets_what_is_in_flight() {
     assert_eq!(write(&mut m, 1, 0x830, 0x4041), Ok(1));
     assert_eq!(
         hand_back(&mut m, 0, &mut page(&[]), true, false),
-        Err(NOT_LEAVING)
+        Err(STILL_ACTIVE)
     );
     assert_eq!(m.records[0].flight, NMI);
 

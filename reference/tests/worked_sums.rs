@@ -71,7 +71,7 @@ fn case_14_93() {
             "call ok 0x2",
             "handback refused 0x2",
             "handback ok 0x10001",
-            "handback refused 0x3",
+            "handback refused 0x7",
             "call ok 0x0",
             "notice ok 0x0 0x0",
         ]

@@ -59,10 +59,11 @@ pub struct Module {
 pub enum Refusal {
     UnknownVcpu = 1,
     ShortPage = 2,
-    NotLeaving = 3,
+    StillActive = 3,
     NothingInFlight = 4,
     BadStart = 5,
     BadList = 6,
+    HasLeft = 7,
     NotActive = 0x8000_0001,
     UnknownCall = 0x8000_0002,
     BadRegister = 0x8000_0003,

@@ -137,7 +137,7 @@ pub fn hand_back(m: &mut Module, vcpu: u32, page: &mut [u8], iflag: bool, shadow
     }
     let v = &mut m.vcpus[vcpu as usize];
     if v.phase != Phase::Leaving {
-        return Outcome::Refused(Refusal::NotLeaving);
+        return Outcome::Refused(hand_back_refusal(v.phase));
     }
     if page.len() < 256 {
         return Outcome::Refused(Refusal::ShortPage);
@@ -155,6 +155,16 @@ pub fn hand_back(m: &mut Module, vcpu: u32, page: &mut [u8], iflag: bool, shadow
     Outcome::Done(
         u64::from(m.vmpl) << 16 | u64::from(v.tpr) << 8 | u64::from(shadow) << 1 | u64::from(iflag),
     )
+}
+
+/// The refusal of a hand-back whose vCPU is not leaving (11.3, 11.23).
+#[inline]
+fn hand_back_refusal(phase: Phase) -> Refusal {
+    if phase == Phase::Active {
+        Refusal::StillActive
+    } else {
+        Refusal::HasLeft
+    }
 }
 
 /// 10.4 to 10.11, 10.17

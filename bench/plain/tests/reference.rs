@@ -202,18 +202,23 @@ fn a_list_is_its_single_calls() {
     }
 }
 
-/// A list event, played by both: the same answer, second list and module.
+/// An event, played by both: the same answer, page or second list, and module.
+fn agree(ours: &mut plain::Module, mut event: Event) -> Answer {
+    let (mut after, mut same) = (module(ours), event.clone());
+    let expected = step(&mut after, &mut same);
+    assert_eq!(played(ours, &mut event), expected, "{event}");
+    assert_eq!(event, same);
+    assert_eq!(module(ours), after);
+    expected
+}
+
 fn agrees(ours: &mut plain::Module, vcpu: u32, values: &[u32], length: usize) {
-    let mut event = Event::Allow {
+    let event = Event::Allow {
         vcpu,
         values: values.to_vec(),
         codes: vec![7; length],
     };
-    let (mut after, mut same) = (module(ours), event.clone());
-    let expected = step(&mut after, &mut same);
-    assert_eq!(played(ours, &mut event), expected);
-    assert_eq!(event, same);
-    assert_eq!(module(ours), after);
+    agree(ours, event);
 }
 
 /// Sizes of both lists at the borders of the rule.
@@ -244,5 +249,75 @@ fn agrees_on_the_borders_of_lists() {
         for vcpu in [0, 1, 2, 3, u32::MAX] {
             agrees_on_sizes(flight, vcpu);
         }
+    }
+}
+
+/// A vCPU that is active, one that is leaving and one that has left, with this count.
+fn phases(count: u8) -> plain::Module {
+    let mut m = plain::start(3, 2).1;
+    m.registrations = count;
+    m.vcpus[1].phase = plain::Phase::Leaving;
+    m.vcpus[2].phase = plain::Phase::Left;
+    m
+}
+
+/// 11.17: the vCPU, then its phase, then the page, whatever IF, shadow and the count are.
+#[test]
+fn the_codes_of_hand_backs() {
+    for (vcpu, codes) in [
+        (0, [3, 3, 3, 3]),
+        (1, [2, 2, 0, 0]),
+        (2, [7, 7, 7, 7]),
+        (3, [1, 1, 1, 1]),
+        (32, [1, 1, 1, 1]),
+        (258, [1, 1, 1, 1]),
+        (u32::MAX, [1, 1, 1, 1]),
+    ] {
+        for (length, code) in [0, 255, 256, 300].into_iter().zip(codes) {
+            for flags in 0..8 {
+                let [if_set, shadow, registered] = [1, 2, 4].map(|bit| flags & bit != 0);
+                let event = Event::HandBack {
+                    vcpu,
+                    if_set,
+                    shadow,
+                    page: vec![0xFF; length],
+                };
+                let answer = agree(&mut phases(u8::from(registered)), event);
+                assert_eq!(answer.refusal().unwrap_or(0), code, "{vcpu}, {length}");
+            }
+        }
+    }
+}
+
+/// 11.24: on a vCPU that has left code 7 is for hand-backs alone.
+#[test]
+fn other_events_on_a_vcpu_that_has_left() {
+    let vcpu = 2;
+    let call = |call, ecx| Event::Call {
+        vcpu,
+        call,
+        ecx,
+        rdx: 0,
+    };
+    let list = |values| Event::Allow {
+        vcpu,
+        values: vec![0x141; values],
+        codes: vec![],
+    };
+    let notice = |length| Event::Notice {
+        vcpu,
+        page: vec![0xFF; length],
+    };
+    let entry = Event::Entry {
+        vcpu,
+        if_set: true,
+        shadow: false,
+        blocked: false,
+    };
+    let mut events = vec![notice(256), notice(0), entry, Event::NonDelivery { vcpu }];
+    events.extend([call(0, 0), call(1, 2), call(5, 0), list(0), list(257)]);
+    for event in events {
+        let answer = agree(&mut phases(1), event);
+        assert_eq!(answer.refusal(), Some(0x8000_0001));
     }
 }

@@ -1,6 +1,8 @@
 //! Short names for the tests.
 #![allow(dead_code)]
 
+pub mod hand_backs;
+
 use reference::calls::call;
 use reference::codes::Code;
 use reference::demand3::{opened, Gate};

@@ -20,10 +20,11 @@ use Rattle.model.specs.WorkedChecks.{checks, WorkedChecks}
 use Rattle.model.specs.WorkedValues.{values, WorkedValues}
 use Rattle.model.specs.WorkedSummaries.{summaries, WorkedSummaries}
 use Rattle.model.specs.WorkedHandBacks.{handBacks, WorkedHandBacks}
+use Rattle.model.specs.WorkedLevels.{levels, WorkedLevels}
 use Rattle.model.specs.Ipi.{icrReservedClear, icrIsFixed, icrIsNmi, icrLegal, icrItem, icrTarget, hits, reach, mapFrom, sent, newBits}
 
-all : Worked × WorkedChecks × WorkedValues × WorkedSummaries × WorkedHandBacks
-unfolding Starred cases further checks values summaries handBacks
+all : Worked × WorkedChecks × WorkedValues × WorkedSummaries × WorkedHandBacks × WorkedLevels
+unfolding Starred cases further checks values summaries handBacks levels
     singleAfter listAfter listCodes giveBack undelivered icrReservedClear icrIsFixed icrIsNmi icrLegal icrItem
     icrTarget hits reach mapFrom sent newBits itemCount itemsNew itemsMerged bits has words collect empty full insert remove union difference
     highestBelow highest countBelow count isEmpty wordOf bare size vcpuAt started start stopped withVcpu withRegistrations mark unmark markAll
@@ -47,6 +48,7 @@ all = (
   },
   record { summaries = refl },
   record { handBacks = refl },
+  record { levels = refl },
 )
 
 pub worked : Worked
@@ -63,3 +65,6 @@ worked-summaries = all .3
 
 pub worked-hand-backs : WorkedHandBacks
 worked-hand-backs = all .4
+
+pub worked-levels : WorkedLevels
+worked-levels = all .5

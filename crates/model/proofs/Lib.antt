@@ -4,6 +4,8 @@ pub mod Stored
 pub mod ItemLaws
 pub mod Stays
 pub mod ListLaws
+pub mod Untouched
+pub mod LeftAlone
 pub mod Allowed
 pub mod LevelledLaws
 pub mod Fitting

@@ -8,6 +8,7 @@ pub mod Requests
 pub mod Events
 pub mod Causes
 pub mod Reached
+pub mod Touches
 pub mod Demand1
 pub mod Demand2
 pub mod Cases
@@ -17,3 +18,4 @@ pub mod WorkedValues
 pub mod SummaryClaims
 pub mod WorkedSummaries
 pub mod WorkedHandBacks
+pub mod WorkedLevels

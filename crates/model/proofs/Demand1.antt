@@ -31,7 +31,7 @@ use Rattle.model.proofs.NumberCauses.{refusalIn, needs, numbers}
 
 -- ---- the verdict has the code of the first cause
 -- by n and L the module has the vCPUs below its size
-has-size : (m : Module) (i : ℕ) → hasVcpu m i ≡ ltb i (size m)
+pub has-size : (m : Module) (i : ℕ) → hasVcpu m i ≡ ltb i (size m)
 unfolding size
 has-size m i = pick (leb (m .n) 32) (leb 1 (m .vmpl)) (leb (m .vmpl) 3)
   where
@@ -102,7 +102,7 @@ result-verdict m e =
     by-verdict m e (λ o. refusalOf (o .result) ≡ refusalIn (verdict m e)) (λ c h. ap refusalIn (sym h))
     (λ h. answered m (e .vcpu) (e .act) h ∙ ap refusalIn (sym h))
 
-refusals : (m : Module) (e : Event) → refusalOf (step m e .result) ≡ firstCause (causes m e)
+pub refusals : (m : Module) (e : Event) → refusalOf (step m e .result) ≡ firstCause (causes m e)
 refusals m e = result-verdict m e ∙ verdict-causes m (e .vcpu) (e .act)
 
 -- ---- a refused event

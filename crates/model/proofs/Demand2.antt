@@ -2,6 +2,7 @@
 -- Assumes nothing.
 use mathlib.Core.Path.{_≡_, refl}
 use mathlib.Core.Bool.{Bool, true, false, cond, _&&_}
+use mathlib.Core.List.{List}
 use Prim.Native.Nat.{ℕ, _<_, _≤_}
 use native.Mathlib.Nat.{not-suc-le-zero}
 use lib.Dec.{leb, ltb}
@@ -12,13 +13,16 @@ use Rattle.model.specs.declared.Module.{Module}
 use Rattle.model.specs.State.{isLeaving, size, vcpuAt, start}
 use Rattle.model.specs.Codes.{Verdict, accept, refuse, done}
 use Rattle.model.specs.Doorbell.{longEnough, admitted}
-use Rattle.model.specs.Events.{handBack, at, Bytes, handBackRefusal, vcpuVerdict, verdict, effect, concluded, decided, step, final}
+use Rattle.model.specs.Events.{handBack, at, Bytes, Event, handBackRefusal, vcpuVerdict, verdict, effect, concluded, decided, step, final}
+use Rattle.model.specs.Reached.{Ruled, SoundModule}
 use Rattle.model.specs.Demand2.{announce, pendingPart, ReadsBack, Demand2}
 use Rattle.vector_set.specs.Sets.{full}
 use Rattle.vector_set.proofs.Laws.{clash}
 use Rattle.model.proofs.Stored.{needed}
 use Rattle.model.proofs.Allowed.{nmi-admitted, machine-check-admitted}
-use Rattle.model.proofs.Reached.{AllSound, all-reached}
+use Rattle.model.proofs.SoundRecords.{formed-of, sound-of}
+use Rattle.model.proofs.Reached.{all-final, all-reached}
+use Rattle.model.proofs.Summarised.{final-summed, reached-summed}
 use Rattle.model.proofs.ReadBack.{read-back}
 use Rattle.model.proofs.Kept.{keeps-level, calls-keep-level, calls-keep-pending, calls-keep-machine-checks}
 use Rattle.model.proofs.Kept.{keeps-inactive, keeps-others, keeps-beyond}
@@ -53,9 +57,9 @@ accepted-in m i p iF sh e =
     (a .0, needed (longEnough p) ShortPage accept (b .1) .0)
 
 -- ---- the read-back
-reads-back : (m : Module) → AllSound m → (i : ℕ) (p : Bytes) (iF sh : Bool) → ReadsBack m i p iF sh
+pub reads-back : (m : Module) (i : ℕ) → Ruled (vcpuAt m i) → (p : Bytes) (iF sh : Bool) → ReadsBack m i p iF sh
 unfolding step concluded effect
-reads-back m s i p iF sh = over (verdict m (at i (handBack p iF sh))) (accepted-in m i p iF sh)
+reads-back m i s p iF sh = over (verdict m (at i (handBack p iF sh))) (accepted-in m i p iF sh)
   where
     over : (g : Verdict) → (g ≡ accept → (ltb i (size m) ≡ true) × (longEnough p ≡ true)) → (r : ℕ) → decided g m (at i (handBack p iF sh)) .result ≡ done r
         → admitted (m .vmpl) full (announce (m .vmpl) (decided g m (at i (handBack p iF sh)) .page)) ≡ pendingPart (vcpuAt m i)
@@ -63,13 +67,22 @@ reads-back m s i p iF sh = over (verdict m (at i (handBack p iF sh))) (accepted-
     over accept h r e =
         let a = h refl in
         let b = vmpl-in m i (ltb-true i (size m) (a .0)) in
-        read-back (m .vmpl) (vcpuAt m i) p (s i) (b .0) (b .1) (leb-true 256 (length p) (a .1))
+        read-back (m .vmpl) (vcpuAt m i) p s (b .0) (b .1) (leb-true 256 (length p) (a .1))
+
+-- ---- soundness
+pub sound-final : (m : Module) (es : List Event) → SoundModule m → SoundModule (final m es)
+sound-final m es h i =
+    sound-of (vcpuAt (final m es) i) (all-final es m (λ j. formed-of (vcpuAt m j) (h j)) i)
+    (final-summed es m i (h i .ruled .irr .words, h i .ruled .summary) .1)
+
+sound-reached : (n l : ℕ) (es : List Event) → SoundModule (final (start n l) es)
+sound-reached n l es i = sound-of (vcpuAt (final (start n l) es) i) (all-reached n l es i) (reached-summed n l es i .1)
 
 pub demand2 : Demand2
 demand2 =
     record {
-      reached = all-reached;
-      readBack = λ n l es. reads-back (final (start n l) es) (all-reached n l es);
+      reached = sound-reached;
+      readBack = λ n l es i. reads-back (final (start n l) es) i (sound-reached n l es i .ruled);
       keepsLevel = keeps-level;
       callsKeepLevel = calls-keep-level;
       callsKeepPending = calls-keep-pending;

@@ -11,6 +11,7 @@ pub mod LevelledLaws
 pub mod Fitting
 pub mod SoundRecords
 pub mod Reached
+pub mod Summarised
 pub mod Kept
 pub mod Called
 pub mod IcrBits
@@ -24,6 +25,6 @@ pub mod ReadBack
 pub mod NumberCauses
 pub mod Demand1
 pub mod Demand2
+pub mod Continued
 pub mod Computed
-pub mod Summarised
 pub mod Asked

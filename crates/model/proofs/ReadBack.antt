@@ -16,7 +16,7 @@ use Rattle.model.specs.Doorbell.{nmiBit, machineCheckBit, levelBit, many
 use Rattle.model.specs.Doorbell.{isLevel, admitsMark, admitsLevel, admitsEdge, admits, admitted, handedBit, servingBit, handedBytes, written}
 use Rattle.model.specs.Events.{handed}
 use Rattle.model.specs.Demand2.{announce, pendingPart}
-use Rattle.model.specs.Reached.{Levelled, Sound}
+use Rattle.model.specs.Reached.{Levelled, Ruled}
 use Rattle.model.proofs.Tests.{eqb-above, eqb-below}
 use Rattle.model.proofs.LevelledLaws.{levelled-low}
 use Rattle.model.proofs.Bytes.{bitOf-byte, bytesFrom-at, bytesFrom-length, bytesFrom-bit}
@@ -33,7 +33,7 @@ announced l q long small =
     mapBits-bit (λ k b. b || eqb k (announcingBit l)) q (announcingBit l) (omega arith)
     ∙ rw (eq-eqb (announcingBit l) (announcingBit l) refl) (or-true (bitOf q (announcingBit l)))
 
-handed-length : (v : Vcpu) → length (handed v) ≡ 64
+pub handed-length : (v : Vcpu) → length (handed v) ≡ 64
 unfolding handed handedBytes
 handed-length v = simp (length-append, bytesFrom-length)
 
@@ -255,7 +255,7 @@ module _ (v : Vcpu) (sound : Levelled (v .irr) (v .«irr_level»)) where
   )
 
 -- ---- the read-back of the page that a hand-back leaves, from any sound record
-pub read-back : (l : ℕ) (v : Vcpu) (p : List ℕ) → Sound v → 1 ≤ l → l ≤ 3 → 256 ≤ length p
+pub read-back : (l : ℕ) (v : Vcpu) (p : List ℕ) → Ruled v → 1 ≤ l → l ≤ 3 → 256 ≤ length p
     → admitted l full (announce l (written l (handed v) p)) ≡ pendingPart v
 unfolding admitted
 read-back l v p s low high long =

@@ -1,4 +1,4 @@
--- Why the record of an accepted event's vCPU stays sound.
+-- Why the record of an accepted event's vCPU stays sound, its summary apart.
 -- Assumes nothing.
 use mathlib.Core.Path.{_≡_, refl, sym, _∙_}
 use mathlib.Core.Bool.{Bool, true, false, cond, not, _&&_, _||_, or-true}
@@ -28,7 +28,7 @@ use Rattle.model.specs.Ipi.{icrItem}
 use Rattle.model.specs.Requests.{mayName, nameable, requestOf, forget, leaveIf, serve}
 use Rattle.model.specs.Events.{Act, notice, call, entry, nonDelivery, handBack, allow, Bytes, noticed, offerHighest, offerWith, offer, present}
 use Rattle.model.specs.Events.{entered, giveBack, undelivered, emptied, Reply, gives, sends, callEffect, effect}
-use Rattle.model.specs.Reached.{Levelled, Sound}
+use Rattle.model.specs.Reached.{Levelled, Summarised, Sound}
 use Rattle.vector_set.specs.Sets.{Words, has, empty, insert, remove, highest}
 use Rattle.vector_set.specs.Summaries.{inMarked}
 use Rattle.vector_set.proofs.Laws.{clash, has-empty, has-insert, has-remove, words-empty, words-insert, words-remove}
@@ -40,12 +40,42 @@ use Rattle.model.proofs.Fitting.{Fitting, FittingRequest, fitting-reque
 use Rattle.model.proofs.ListLaws.{after-each}
 
 -- ---- records
+-- what is sound of a record but for its summary, of which Summarised tells
+pub record Formed (v : Vcpu) : Type 0 where
+  pub words : Words (v .allowed)
+  pub nameable : (x : ℕ) → x < 256 → has (v .allowed) x ≡ true → mayName x ≡ true
+  pub irr : Levelled (v .irr) (v .«irr_level»)
+  pub isr : Levelled (v .isr) (v .«isr_level»)
+  pub inService : (x : ℕ) → v .flight ≡ flight.Vector x → has (v .isr) x ≡ true
+  pub inactive : isActive (v .phase) ≡ false → v .flight ≡ flight.Nothing
+
+pub formed-of : (v : Vcpu) → Sound v → Formed v
+formed-of v h =
+    record {
+      words = h .words;
+      nameable = h .nameable;
+      irr = h .ruled .irr;
+      isr = h .ruled .isr;
+      inService = h .inService;
+      inactive = h .inactive;
+    }
+
+pub sound-of : (v : Vcpu) → Formed v → Summarised v → Sound v
+sound-of v h e =
+    record {
+      ruled = record { irr = h .irr; isr = h .isr; summary = e };
+      words = h .words;
+      nameable = h .nameable;
+      inService = h .inService;
+      inactive = h .inactive;
+    }
+
 -- one with nothing in flight
 pub at-rest : (v : Vcpu) → Words (v .allowed) → ((x : ℕ) → x < 256 → has (v .allowed) x ≡ true → mayName x ≡ true)
-    → Levelled (v .irr) (v .«irr_level») → Levelled (v .isr) (v .«isr_level») → v .flight ≡ flight.Nothing → Sound v
+    → Levelled (v .irr) (v .«irr_level») → Levelled (v .isr) (v .«isr_level») → v .flight ≡ flight.Nothing → Formed v
 at-rest v w n p s z = record { words = w; nameable = n; irr = p; isr = s; inService = λ x e. clash (cc); inactive = λ e. z }
 
-sound-noticed : (l : ℕ) (p : Bytes) (v : Vcpu) → Sound v → Sound (noticed (admitted l (v .allowed) p) v)
+sound-noticed : (l : ℕ) (p : Bytes) (v : Vcpu) → Formed v → Formed (noticed (admitted l (v .allowed) p) v)
 unfolding noticed markAll
 sound-noticed l p v h =
     record {
@@ -75,7 +105,7 @@ sound-noticed l p v h =
     sub false e b {c} h p = rw (p, or-true e)
 
 -- ---- what a call does to a record
-pub sound-mark : (y : Item) (v : Vcpu) → IsVector y → Sound v → Sound (mark y v)
+pub sound-mark : (y : Item) (v : Vcpu) → IsVector y → Formed v → Formed (mark y v)
 unfolding mark insert
 sound-mark item.Nmi v q h =
     record { words = h .words; nameable = h .nameable; irr = h .irr; isr = h .isr; inService = h .inService; inactive = h .inactive }
@@ -91,14 +121,14 @@ sound-mark (item.Vector x) v q h =
       inactive = h .inactive;
     }
 
-sound-forget : (v : Vcpu) → Sound v → Sound (forget v)
+sound-forget : (v : Vcpu) → Formed v → Formed (forget v)
 sound-forget v h = at-rest (forget v) (h .words) (h .nameable) (h .irr) (h .isr) refl
 
-sound-leaveIf : (b : Bool) (v : Vcpu) → v .flight ≡ flight.Nothing → Sound v → Sound (leaveIf b v)
+sound-leaveIf : (b : Bool) (v : Vcpu) → v .flight ≡ flight.Nothing → Formed v → Formed (leaveIf b v)
 sound-leaveIf true v z h = at-rest _ (h .words) (h .nameable) (h .irr) (h .isr) z
 sound-leaveIf false v z h = h
 
-sound-endedAt : (o : Option ℕ) (v : Vcpu) → v .flight ≡ flight.Nothing → Sound v → Sound (endedAt o v)
+sound-endedAt : (o : Option ℕ) (v : Vcpu) → v .flight ≡ flight.Nothing → Formed v → Formed (endedAt o v)
 unfolding endedAt
 sound-endedAt none v z h = h
 sound-endedAt (some x) v z h = at-rest _ (h .words) (h .nameable) (h .irr) (levelled-remove x (v .isr) (v .«isr_level») (h .isr)) z
@@ -121,7 +151,7 @@ named-remove x s h y l e = pick (not (eqb y x)) (has s y) refl (sym (has-remove 
     pick true false r f = clash (cc)
     pick false b r f = clash (cc)
 
-sound-serve : (o : Local) (i k : ℕ) (v : Vcpu) → Fitting o → v .flight ≡ flight.Nothing → Sound v → Sound (serve o i k v .vcpu)
+sound-serve : (o : Local) (i k : ℕ) (v : Vcpu) → Fitting o → v .flight ≡ flight.Nothing → Formed v → Formed (serve o i k v .vcpu)
 unfolding serve ended
 sound-serve local.Features i k v q z h = h
 sound-serve local.Leave i k v q z h = sound-leaveIf (eqb k 0) v z h
@@ -134,7 +164,7 @@ sound-serve (local.SetTpr x) i k v q z h = at-rest _ (h .words) (h .nameable) (h
 sound-serve local.Eoi i k v q z h = sound-endedAt (highest (v .isr)) v z h
 sound-serve (local.SelfIpi x) i k v q z h = sound-mark (item.Vector x) v q h
 
-sound-call : (r : Request) (i k : ℕ) (v : Vcpu) → FittingRequest r → Sound v → Sound (callEffect r i k v .vcpu)
+sound-call : (r : Request) (i k : ℕ) (v : Vcpu) → FittingRequest r → Formed v → Formed (callEffect r i k v .vcpu)
 unfolding callEffect FittingRequest
 sound-call (request.Local o) i k v q h = sound-serve o i k (forget v) q refl (sound-forget v h)
 sound-call (request.Icr x) i k v q h = at-rest _ (h .words) (h .nameable) (h .irr) (h .isr) refl
@@ -149,7 +179,7 @@ Shown (presents item.MachineCheck) = Unit {0}
 Shown (presents (item.Vector x)) = (31 ≤ x) × (x < 256)
 Shown (window x) = Unit {0}
 
-shown-offer : (iF sh bl : Bool) (v : Vcpu) → Sound v → Shown (offer iF sh bl v)
+shown-offer : (iF sh bl : Bool) (v : Vcpu) → Formed v → Shown (offer iF sh bl v)
 unfolding offer offerWith offerHighest
 shown-offer iF sh bl v h = first (v .«machine_check»)
   where
@@ -173,7 +203,7 @@ shown-offer iF sh bl v h = first (v .«machine_check»)
     first false = pick (v .nmi && not (sh || bl))
 
 -- on an active vCPU
-sound-entered : (a : Answer) (v : Vcpu) → Shown a → isActive (v .phase) ≡ true → Sound v → Sound (entered a (forget v))
+sound-entered : (a : Answer) (v : Vcpu) → Shown a → isActive (v .phase) ≡ true → Formed v → Formed (entered a (forget v))
 unfolding entered present unmark remove
 sound-entered nothing v q on h = sound-forget v h
 sound-entered (presents item.Nmi) v q on h =
@@ -196,7 +226,7 @@ abbrev Returned : Option Item → Type 0
 Returned none = Unit {0}
 Returned (some y) = IsVector y
 
-returned-flying : (v : Vcpu) → Sound v → Returned (itemInFlight (v .flight))
+returned-flying : (v : Vcpu) → Formed v → Returned (itemInFlight (v .flight))
 returned-flying v h = go (v .flight) refl
   where
     go : (f : InFlight) → v .flight ≡ f → Returned (itemInFlight f)
@@ -205,7 +235,7 @@ returned-flying v h = go (v .flight) refl
     go flight.MachineCheck e = tt
     go (flight.Vector x) e = levelled-low (v .isr) _ (h .isr) x (h .inService x e)
 
-sound-undelivered : (o : Option Item) (v : Vcpu) → Returned o → Sound v → Sound (undelivered o v)
+sound-undelivered : (o : Option Item) (v : Vcpu) → Returned o → Formed v → Formed (undelivered o v)
 unfolding undelivered giveBack mark insert
 sound-undelivered none v q h = sound-forget v h
 sound-undelivered (some item.Nmi) v q h = at-rest _ (h .words) (h .nameable) (h .irr) (h .isr) refl
@@ -223,7 +253,7 @@ not-active Leaving e = refl
 not-active Left e = refl
 
 -- of a leaving vCPU
-sound-emptied : (v : Vcpu) → isLeaving (v .phase) ≡ true → Sound v → Sound (emptied v)
+sound-emptied : (v : Vcpu) → isLeaving (v .phase) ≡ true → Formed v → Formed (emptied v)
 unfolding emptied unmarkAll empty
 sound-emptied v on h = at-rest _ words-empty none-named levelled-empty levelled-empty (h .inactive (not-active (v .phase) on))
 
@@ -248,7 +278,7 @@ sending-effect l i k v nonDelivery = tt
 sending-effect l i k v (handBack p iF sh) = tt
 sending-effect l i k v (allow cs q) = tt
 
-pub sound-effect : (l i k : ℕ) (v : Vcpu) (a : Act Bytes) → servedIn a (v .phase) ≡ true → Sound v → Sound (effect l i k v a .vcpu)
+pub sound-effect : (l i k : ℕ) (v : Vcpu) (a : Act Bytes) → servedIn a (v .phase) ≡ true → Formed v → Formed (effect l i k v a .vcpu)
 unfolding effect
 sound-effect l i k v (notice p) on h = sound-noticed l p v h
 sound-effect l i k v (call op c x) on h = sound-call (requestOf op c x) i k v (fitting-request op c x) h
@@ -256,4 +286,4 @@ sound-effect l i k v (entry iF sh bl) on h = sound-entered (offer iF sh bl v) v 
 sound-effect l i k v nonDelivery on h = sound-undelivered (itemInFlight (v .flight)) v (returned-flying v h) h
 sound-effect l i k v (handBack p iF sh) on h = sound-emptied v on h
 sound-effect l i k v (allow cs q) on h =
-    after-each Sound i k (λ c u. sound-call (requestOf 4 c 0) i k u (fitting-request 4 c 0)) _ v h
+    after-each Formed i k (λ c u. sound-call (requestOf 4 c 0) i k u (fitting-request 4 c 0)) _ v h

@@ -136,7 +136,7 @@ next-summed m e j h =
     (on-put m (e .vcpu) (effectOf m e .vcpu) j (known-of m (e .vcpu) (e .act) q .there) (λ _ _ u v. Summed u → Summed v)
     (effect-summed (m .vmpl) (e .vcpu) (m .registrations) (vcpuAt m (e .vcpu)) (e .act)) (λ g. g) h)))
 
-final-summed : (es : List Event) (m : Module) (j : ℕ) → Summed (vcpuAt m j) → Summed (vcpuAt (final m es) j)
+pub final-summed : (es : List Event) (m : Module) (j : ℕ) → Summed (vcpuAt m j) → Summed (vcpuAt (final m es) j)
 unfolding final
 final-summed [] m j h = h
 final-summed (e ∷ es) m j h = final-summed es (next m e) j (next-summed m e j h)

@@ -164,9 +164,13 @@ vcpuVerdict i k v nonDelivery = need (isActive (v .phase)) NotActive (need (isIn
 vcpuVerdict i k v (handBack p iF sh) = need (isLeaving (v .phase)) (handBackRefusal (v .phase)) (need (longEnough p) ShortPage accept)
 vcpuVerdict i k v (allow cs q) = need (isActive (v .phase)) NotActive (need (listFits cs q) BadList accept)
 
+-- the module has a vCPU of this number: what code 1 asks, by n, the VMPL and the number alone (2.15, 11.1)
+abbrev pub knows : Module → ℕ → Bool
+knows m i = ltb i (size m)
+
 -- the vCPU number before all else (11.1, 11.12)
 unfoldable pub verdict : Module → Event → Verdict
-verdict m e = need (ltb (e .vcpu) (size m)) UnknownVcpu (vcpuVerdict (e .vcpu) (m .registrations) (vcpuAt m (e .vcpu)) (e .act))
+verdict m e = need (knows m (e .vcpu)) UnknownVcpu (vcpuVerdict (e .vcpu) (m .registrations) (vcpuAt m (e .vcpu)) (e .act))
 
 -- ---- what an accepted event gives
 -- its answer: a result, or, of an ICR write, the value that is sent

@@ -16,6 +16,7 @@ pub mod Worked
 pub mod WorkedChecks
 pub mod WorkedValues
 pub mod SummaryClaims
+pub mod Continued
 pub mod WorkedSummaries
 pub mod WorkedHandBacks
 pub mod WorkedLevels

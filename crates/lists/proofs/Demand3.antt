@@ -21,7 +21,7 @@ use Rattle.lists.proofs.Invariant.{bounded}
 use Rattle.lists.proofs.Pending.{fresh-pending}
 
 -- ---- an accepted notice admits by the book what it admits by the record, and its numbers add up to that of its items; a refused one admits nothing
-exact-at : (m : Module) (i : ℕ) (p : Bytes)
+pub exact-at : (m : Module) (i : ℕ) (p : Bytes)
     → Exact (step m (at i (notice p)) .result) (partBy (m .vmpl) (bookOf m) (at i (notice p))) (admitted (m .vmpl) (vcpuAt m i .allowed) p)
 unfolding concluded effect
 exact-at m i p =

@@ -1,4 +1,5 @@
 pub mod BookLaws
+pub mod FeedLaws
 pub mod FollowCalls
 pub mod Follow
 pub mod Counts

@@ -165,7 +165,7 @@ balanced m =
     }
 
 -- ---- what start gives has nothing in flight either
-none-in-flight : (p : Phase) → itemInFlight (bare p .flight) ≡ none
+pub none-in-flight : (p : Phase) → itemInFlight (bare p .flight) ≡ none
 unfolding bare
 none-in-flight p = refl
 

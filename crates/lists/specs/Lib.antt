@@ -1,4 +1,5 @@
 pub mod Book
+pub mod Feeds
 pub mod Lists
 pub mod Ledger
 pub mod Demand3

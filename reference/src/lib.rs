@@ -32,4 +32,5 @@ pub mod sums_check;
 pub mod sums_print;
 pub mod trace;
 pub mod twin;
+pub mod unreadable;
 pub mod value_lists;

@@ -7,11 +7,13 @@ pub const LONGEST: usize = 65_536;
 
 pub struct Lines<R> {
     input: R,
+    /// Of the line that was read last; the first is 1.
+    pub number: u64,
 }
 
 impl<R: BufRead> Lines<R> {
     pub fn new(input: R) -> Lines<R> {
-        Lines { input }
+        Lines { input, number: 0 }
     }
 
     /// The next line without its newline, or nothing at the end. Of a line longer than `LONGEST`
@@ -24,6 +26,7 @@ impl<R: BufRead> Lines<R> {
             if chunk.is_empty() {
                 return Ok(any);
             }
+            self.number += u64::from(!any);
             any = true;
             let newline = chunk.iter().position(|&b| b == b'\n');
             let end = newline.unwrap_or(chunk.len());

@@ -16,6 +16,7 @@ use crate::page::{admitted, Admitted};
 use crate::questions;
 use crate::state::{Item, Module, Phase, Record};
 use crate::trace::{read, Line};
+use crate::unreadable::Unreadable;
 use crate::value_lists;
 
 /// Of an accepted notice each kind that one of its items has, of an accepted IPI the one it has.
@@ -50,6 +51,7 @@ fn expected() -> Vec<&'static str> {
 
 pub struct Merging {
     counts: BTreeMap<String, u64>,
+    unreadable: Unreadable,
 }
 
 impl Merging {
@@ -58,9 +60,13 @@ impl Merging {
         let mut line = Vec::new();
         let mut module = Module::refused();
         let mut counts = BTreeMap::new();
+        let mut unreadable = Unreadable::default();
         let mut last = Line::PassedOver;
         while lines.next(&mut line)? {
             let line = read(&line);
+            if line == Line::Unreadable {
+                unreadable.add(lines.number);
+            }
             for kind in kinds_of_line(&mut module, &last, &line) {
                 *counts.entry(kind).or_insert(0) += 1;
             }
@@ -68,7 +74,7 @@ impl Merging {
                 last = line;
             }
         }
-        Ok(Merging { counts })
+        Ok(Merging { counts, unreadable })
     }
 
     pub fn count(&self, kind: &str) -> u64 {
@@ -88,8 +94,13 @@ impl Merging {
             .collect()
     }
 
+    /// A generated trace has unreadable lines on purpose, one written by hand has not.
     pub fn report(&self) -> String {
-        report(&expected(), &self.counts) + &listed("missing", &self.missing())
+        let passed_over = match self.unreadable.any() {
+            true => format!("passed over: {}\n", self.unreadable.told()),
+            false => String::new(),
+        };
+        report(&expected(), &self.counts) + &passed_over + &listed("missing", &self.missing())
     }
 }
 

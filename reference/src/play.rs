@@ -11,13 +11,11 @@ use crate::trace::{read, Line};
 pub fn play(input: impl BufRead, mut output: impl Write) -> Result<()> {
     let mut lines = Lines::new(input);
     let mut line = Vec::new();
-    let mut number: u64 = 0;
     let mut module = Module::refused();
     while lines.next(&mut line)? {
-        number += 1;
         match read(&line) {
             Line::PassedOver => {}
-            Line::Unreadable => writeln!(output, "error line {number}")?,
+            Line::Unreadable => writeln!(output, "error line {}", lines.number)?,
             Line::Ask(vcpu) => writeln!(output, "{}", print::asked(ask(&module, vcpu)))?,
             Line::State => output.write_all(print::state(&module).as_bytes())?,
             Line::Event(mut event) => {

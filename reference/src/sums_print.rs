@@ -10,17 +10,28 @@ use crate::lines::Lines;
 use crate::state::{Item, Module};
 use crate::sums::{Counts, Rules, Sums};
 use crate::trace::{read, Line};
+use crate::unreadable::Unreadable;
 
 pub struct Report {
     pub text: String,
     /// Both sides meet and what waits is what is pending, in every row.
     pub meets: bool,
+    /// Of the whole trace; what they should have said is not counted.
+    pub unreadable: Unreadable,
+}
+
+impl Report {
+    pub fn can_be_trusted(&self) -> bool {
+        self.meets && !self.unreadable.any()
+    }
 }
 
 /// One list: its module, its counts, and how many events it has; its start is none of them (1.3).
+/// An unreadable line may have been any event of it, or the start of another list.
 struct List {
     name: String,
     events: u64,
+    unreadable: Unreadable,
     module: Module,
     sums: Sums,
 }
@@ -65,23 +76,26 @@ impl Row {
         came == went && self.waits == self.numbers[5]
     }
 
-    fn verdict(&self) -> String {
+    fn verdict(&self, whole: bool) -> String {
         let (came, went) = self.sides();
         if came != went {
             format!("DIFFERS: {came} and {went}")
         } else if !self.meets() {
             format!("DIFFERS: {} waits", self.waits)
+        } else if !whole {
+            "meets as far as read".to_string()
         } else {
             "meets".to_string()
         }
     }
 
-    fn text(&self, vcpu: u32, name: &str) -> String {
+    /// `whole` says whether all lines of the list could be read.
+    fn text(&self, vcpu: u32, name: &str, whole: bool) -> String {
         let [requests, returns, merged, presented, handed_back, pending] = self.numbers;
         format!(
             "{vcpu:>4}  {name:<20}  {requests:>8}  {returns:>7}  {merged:>6}  {presented:>9}  \
              {handed_back:>11}  {pending:>7}  {}\n",
-            self.verdict()
+            self.verdict(whole)
         )
     }
 }
@@ -110,6 +124,7 @@ impl List {
         List {
             name,
             events: 0,
+            unreadable: Unreadable::default(),
             sums: Sums::new(Book::of(&module), module.vmpl, Rules::RIGHT),
             module,
         }
@@ -147,24 +162,33 @@ impl List {
     /// The rows of all items, then the totals, of the vCPUs that have any.
     fn report(&self, into: &mut Report) {
         let (mut items, mut totals) = (String::new(), String::new());
+        let whole = !self.unreadable.any();
         for vcpu in 0..self.sums.book.n {
             let rows = self.rows(vcpu);
             let mut total = Row::default();
             for (item, row) in &rows {
-                items += &row.text(vcpu, &name(*item));
+                items += &row.text(vcpu, &name(*item), whole);
                 total.add(row);
                 into.meets &= row.meets();
             }
             if !rows.is_empty() {
-                totals += &total.text(vcpu, "all items");
+                totals += &total.text(vcpu, "all items", whole);
             }
         }
+        into.text += &self.heading(items.is_empty());
+        if !items.is_empty() {
+            into.text += &format!("\n{HEADING}{items}\n{totals}");
+        }
+    }
+
+    fn heading(&self, empty: bool) -> String {
         let plural = if self.events == 1 { "" } else { "s" };
-        let heading = format!("{}, {} event{plural}", self.name, self.events);
-        into.text += &match items.is_empty() {
-            true => format!("{heading}: nothing was counted\n"),
-            false => format!("{heading}\n\n{HEADING}{items}\n{totals}"),
-        };
+        let nothing = if empty { ": nothing was counted" } else { "" };
+        let heading = format!("{}, {} event{plural}{nothing}\n", self.name, self.events);
+        match self.unreadable.any() {
+            true => format!("{heading}NOT TO BE TRUSTED: {}\n", self.unreadable.told()),
+            false => heading,
+        }
     }
 }
 
@@ -176,6 +200,7 @@ pub fn report(trace: impl BufRead, gate: Gate) -> Result<Report> {
     let mut report = Report {
         text: String::new(),
         meets: true,
+        unreadable: Unreadable::default(),
     };
     while lines.next(&mut line)? {
         match read(&line) {
@@ -185,7 +210,11 @@ pub fn report(trace: impl BufRead, gate: Gate) -> Result<Report> {
                 list = List::started(number, gate, n, vmpl);
             }
             Line::Event(event) => list.play(gate, &event),
-            _ => {}
+            Line::Unreadable => {
+                list.unreadable.add(lines.number);
+                report.unreadable.add(lines.number);
+            }
+            Line::PassedOver | Line::State | Line::Ask(_) => {}
         }
     }
     end(&list, number, &mut report);
@@ -194,7 +223,7 @@ pub fn report(trace: impl BufRead, gate: Gate) -> Result<Report> {
 
 /// Before the first start there may be nothing to tell.
 fn end(list: &List, number: u64, report: &mut Report) {
-    if number == 0 && list.events == 0 {
+    if number == 0 && list.events == 0 && !list.unreadable.any() {
         return;
     }
     if !report.text.is_empty() {

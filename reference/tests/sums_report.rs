@@ -14,18 +14,17 @@ fn folder(name: &str) -> std::path::PathBuf {
 
 fn printed(trace: &str) -> String {
     let report = report(trace.as_bytes(), step).unwrap();
-    assert!(report.meets);
+    assert!(report.can_be_trusted());
     report.text
 }
 
-/// Each start begins anew; a start is no event, and an unreadable line, a question and `state` are none.
+/// Each start begins anew; a start is no event, and a question and `state` are none.
 #[test]
 fn a_trace_of_two_lists() {
     let trace = "start 2 1
 call 0 3 0x83f 0x41
 call 0 3 0x830 0x84041
 call 1 3 0x830 0xc4400
-unreadable
 ask 0
 start 1 3
 state
@@ -71,6 +70,96 @@ list 2: n 1, VMPL 1, 0 events: nothing was counted
         )
     );
     assert_eq!(printed("# nothing\n"), "");
+}
+
+/// What is printed for a trace that has unreadable lines.
+fn doubtful(trace: &str) -> String {
+    let report = report(trace.as_bytes(), step).unwrap();
+    assert!(report.meets && !report.can_be_trusted());
+    report.text
+}
+
+/// They are named in the list that they stand in, and no row of it says that it meets. Another list
+/// begins with a start that could be read.
+#[test]
+fn unreadable_lines_are_named() {
+    let trace = "# Line 3 lacks a number, line 5 has a comment behind it.
+start 2 1
+call 0 3 0x83f
+call 0 3 0x83f 0x41
+entry 0 1 0 0 # presented
+start 1 3
+call 0 3 0x83f 0xff
+";
+    let expected = "\
+list 1: n 2, VMPL 1, 1 event
+NOT TO BE TRUSTED: 2 unreadable lines (3, 5)
+
+vCPU  item                  requests  returns  merged  presented  handed back  pending
+   0  0x41                         1        0       0          0            0        1  meets as far as read
+
+   0  all items                    1        0       0          0            0        1  meets as far as read
+
+list 2: n 1, VMPL 3, 1 event
+
+vCPU  item                  requests  returns  merged  presented  handed back  pending
+   0  0xff                         1        0       0          0            0        1  meets
+
+   0  all items                    1        0       0          0            0        1  meets
+";
+    assert_eq!(doubtful(trace), expected);
+}
+
+/// Of many the first six are named, of the whole trace as of a list.
+#[test]
+fn many_unreadable_lines() {
+    let trace = format!("start 1 1\n{}start 1 1\noops\n", "entry 0 1 0\n".repeat(7));
+    let report = report(trace.as_bytes(), step).unwrap();
+    assert!(!report.can_be_trusted());
+    assert_eq!(
+        report.unreadable.told(),
+        "8 unreadable lines (2, 3, 4, 5, 6, 7, ...)"
+    );
+    assert_eq!(
+        report.text,
+        "\
+list 1: n 1, VMPL 1, 0 events: nothing was counted
+NOT TO BE TRUSTED: 7 unreadable lines (2, 3, 4, 5, 6, 7, ...)
+
+list 2: n 1, VMPL 1, 0 events: nothing was counted
+NOT TO BE TRUSTED: 1 unreadable line (10)
+"
+    );
+}
+
+/// With its start a whole list is lost, so what stands before the first start is told too.
+#[test]
+fn an_unreadable_start() {
+    assert_eq!(
+        doubtful("Start 1 1\ncall 0 3 0x83f 0x41\n"),
+        "before the first start, 1 event: nothing was counted\n\
+         NOT TO BE TRUSTED: 1 unreadable line (1)\n"
+    );
+    assert_eq!(
+        doubtful("oops\nstart 1 1\n"),
+        "before the first start, 0 events: nothing was counted\n\
+         NOT TO BE TRUSTED: 1 unreadable line (1)\n\n\
+         list 1: n 1, VMPL 1, 0 events: nothing was counted\n"
+    );
+}
+
+/// A row that differs is told so where lines are unreadable, too.
+#[test]
+fn rows_that_differ_among_unreadable_lines() {
+    let trace = "start 1 1\ncall 0 3 0x83f 0x41\nentry 0 1 0 0\noops\n";
+    let report = report(trace.as_bytes(), presented_twice).unwrap();
+    assert!(!report.meets);
+    assert!(
+        report.text.contains("  DIFFERS: 1 and 2\n"),
+        "{}",
+        report.text
+    );
+    assert!(!report.text.contains("meets"), "{}", report.text);
 }
 
 /// Against 8.11: a presented vector stays pending.

@@ -7,6 +7,7 @@
 
 BEGIN {
     COLUMN = 38
+    LONGEST = 65536
     for (k = 0; k < 16; k++) DIGIT[substr("0123456789abcdef", k + 1, 1)] = k
 
     WHY["0x1"] = "no such vCPU"
@@ -22,6 +23,30 @@ BEGIN {
     WHY["0x80000005"] = "value or ECX not taken"
     WHY["0x80000007"] = "count is at its most"
     WHY["0x80001000"] = "count is 0"
+
+    # The words behind the first, by kind, and what may follow them. A page's or a list's word is its length.
+    FORM["start"] = "number number"
+    FORM["notice"] = "number page"
+    FORM["call"] = "number number number wide"
+    FORM["entry"] = "number flag flag flag"
+    FORM["nondelivery"] = "number"
+    FORM["handback"] = "number flag flag page"
+    FORM["allow"] = "number list number"
+    FORM["ask"] = "number"
+    FORM["state"] = ""
+    REST["notice"] = REST["handback"] = "byte"
+    REST["allow"] = "number"
+
+    MOST["number"] = 4294967295
+    MOST["flag"] = 1
+    MOST["page"] = 4096
+    MOST["list"] = VALUES = 1024
+
+    OVER["number"] = "a number too large, over 32 bits"
+    OVER["wide"] = "a number too large, over 64 bits"
+    OVER["flag"] = "a flag that is neither 0 nor 1"
+    OVER["page"] = "a page too long, over 4,096 bytes"
+    OVER["list"] = "a second list too long, over 1,024 places"
 }
 
 # Decimal, or hexadecimal after 0x; exact where the numbers are that are asked here, up to 32 bits.
@@ -190,10 +215,88 @@ function show_module(line, first,    word, n, k) {
     for (k = 0; k < n; k++) print spaces(COLUMN + 3) record(next_answer())
 }
 
+# ---- unreadable lines
+
+# What seems to be wrong with a line: the first that is found, told from the line alone. `replay` says only that it is unreadable.
+function likely(line, word, words,    why) {
+    why = odd_characters(line)
+    if (why == "") why = odd_first(word[1])
+    if (why == "") why = odd_count(word, words)
+    if (why == "") why = odd_word(word, words)
+    return why == "" ? "" : ": likely " why
+}
+
+function odd_characters(line) {
+    if (length(line) > LONGEST) return "a line too long, over 65,536 bytes"
+    if (line ~ /^[ \t]+#/) return "a comment that does not begin at the first character"
+    if (line ~ /#/) return "a comment behind an event"
+    if (line ~ /\r/) return "a carriage return"
+    if (line ~ /\t/) return "a tab"
+    if (line ~ /[^ -~]/) return "a character that no word has"
+    return ""
+}
+
+function odd_first(word) {
+    if (word in FORM) return ""
+    if (tolower(word) in FORM) return "a capital letter in the first word"
+    return "an unknown first word (" short(word) ")"
+}
+
+function odd_count(word, words,    kinds, behind) {
+    behind = words - 1 - split(FORM[word[1]], kinds, " ")
+    if (behind < 0) return "too few words"
+    if (behind > 0 && !(word[1] in REST)) return "too many words"
+    if (behind > VALUES && word[1] == "allow") return "too many values, over 1,024"
+    return ""
+}
+
+# The first word that is not of its kind. Where bytes follow, the word before them is the page's length.
+function odd_word(word, words,    kinds, n, k, why) {
+    n = split(FORM[word[1]], kinds, " ")
+    for (k = 2; k <= words && why == ""; k++) {
+        if (k <= n + 1) why = odd_number(word[k], kinds[k - 1])
+        else if (REST[word[1]] == "byte") why = odd_byte(word[k], word[n + 1])
+        else why = odd_number(word[k], REST[word[1]])
+    }
+    return why
+}
+
+function odd_number(word, kind) {
+    if (!is_number(word)) return "not a number (" short(word) ")"
+    if (kind == "wide" ? over_64_bits(word) : number(word) > MOST[kind]) return OVER[kind] " (" short(word) ")"
+    return ""
+}
+
+function odd_byte(word, size,    at, offset, byte) {
+    if (word !~ /^[^=]+=[^=]+$/) return "not OFFSET=BYTE (" short(word) ")"
+    at = index(word, "=")
+    offset = substr(word, 1, at - 1)
+    byte = substr(word, at + 1)
+    if (!is_number(offset) || !is_number(byte)) return "not a number (" short(word) ")"
+    if (number(offset) >= number(size)) return "an offset out of the page, which has " number(size) " bytes (" short(word) ")"
+    if (number(byte) > 255) return "a byte over 255 (" short(word) ")"
+    return ""
+}
+
+function is_number(word) {
+    return word ~ /^[0-9]+$/ || word ~ /^0x[0-9a-fA-F]+$/
+}
+
+# By its digits, since numbers so large are not exact here.
+function over_64_bits(word) {
+    if (sub(/^0x0*/, "", word)) return length(word) > 16
+    sub(/^0+/, "", word)
+    return length(word) > 20 || (length(word) == 20 && (word "") > "18446744073709551615")
+}
+
+function short(word) {
+    return length(word) > 24 ? substr(word, 1, 24) "..." : word
+}
+
 # ---- lines
 
 function answer_of(given, words, told, count,    text) {
-    if (told[1] == "error") return "unreadable (line " told[3] ")"
+    if (told[1] == "error") return "unreadable (line " told[3] ")" likely($0, given, words)
     if (told[2] == "refused") text = refused(told[3]) (told[1] == "allow" ? places(given, told, 5, count) : "")
     else if (told[1] == "start") text = "ok"
     else if (told[1] == "notice") text = admitted(number(told[3]), number(told[4]))
@@ -210,7 +313,7 @@ function answer_of(given, words, told, count,    text) {
 }
 
 { shown = $0; gsub(/[\001-\010\013-\037\177]/, "?", shown) }
-/^#/ || /^ *$/ { print shown; next }
+/^#/ || (/^ *$/ && length($0) <= LONGEST) { print shown; next }
 {
     answer = next_answer()
     if (answer ~ /^module /) { show_module(shown, answer); next }

@@ -13,7 +13,7 @@ use Rattle.model.specs.declared.Phase.the-variants.{Leaving}
 use Rattle.model.specs.State.{isActive, isLeaving}
 use Rattle.model.specs.Requests.{nameable}
 use Rattle.model.specs.Events.{Act, notice, call, entry, nonDelivery, handBack, allow, Bytes, Event}
-use Rattle.model.specs.Doorbell.{Part, noPart}
+use Rattle.model.specs.Doorbell.{noPart}
 use Rattle.model.specs.Continued.{onlyReads}
 use Rattle.model.proofs.Continued.{by-read}
 use Rattle.lists.specs.Book.{Note, note, mapPage, BookRecord, Book, recordAt, withRecord, withCount, withPhase, leavesAtZero, takesOne, addsOne, registers}

@@ -26,7 +26,7 @@ use Rattle.model.specs.Causes.{isHandBack, causes, startCauses}
 use Rattle.model.specs.Demand1.{shortCode, Demand1}
 use Rattle.vector_set.proofs.Laws.{clash}
 use Rattle.model.proofs.Tests.{ltb-leb}
-use Rattle.model.proofs.Stored.{needed, by-verdict}
+use Rattle.model.proofs.Stored.{needed, by-verdict, leaving-inactive}
 use Rattle.model.proofs.NumberCauses.{refusalIn, needs, numbers}
 
 -- ---- the verdict has the code of the first cause
@@ -180,11 +180,6 @@ size-level m h = pick (leb (m .n) 32) (leb 1 (m .vmpl)) (leb (m .vmpl) 3) h
     pick false b c e = refl
 
 -- ---- by n and the phase
-leaving-inactive : (s : Phase) → isLeaving s ≡ true → (isActive s ≡ false) × (hasLeft s ≡ false)
-leaving-inactive Active e = clash (cc)
-leaving-inactive Leaving e = (refl, refl)
-leaving-inactive Left e = clash (cc)
-
 left-inactive : (s : Phase) → hasLeft s ≡ true → isActive s ≡ false
 left-inactive Active e = clash (cc)
 left-inactive Leaving e = refl

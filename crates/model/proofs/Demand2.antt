@@ -24,16 +24,14 @@ use Rattle.model.proofs.SoundRecords.{formed-of, sound-of}
 use Rattle.model.proofs.Reached.{all-final, all-reached}
 use Rattle.model.proofs.Summarised.{final-summed, reached-summed}
 use Rattle.model.proofs.ReadBack.{read-back}
-use Rattle.model.proofs.Kept.{keeps-level, calls-keep-level, calls-keep-pending, calls-keep-machine-checks}
-use Rattle.model.proofs.Kept.{keeps-inactive, keeps-others, keeps-beyond}
-use Rattle.model.proofs.Listed.{list-is-calls, list-gives, list-writes, permit-touches, list-touches}
+use Rattle.model.proofs.Kept.{keeps-level, calls-keep-pending, keeps-inactive, keeps-beyond}
+use Rattle.model.proofs.Listed.{list-is-calls, list-gives, list-writes}
 use Rattle.model.proofs.Called.{calls-forget, call-permits}
 use Rattle.model.proofs.IcrBits.{reserved, set-apart, same-delivery}
-use Rattle.model.proofs.IcrWrites.{same-write, icr-reads, icr-touches}
-use Rattle.model.proofs.NoticeCounts.{notice-new, notice-sum, notice-pends, notice-levels, notice-touches}
-use Rattle.model.proofs.IpiNames.{icr-names, self-names, icr-reaches, self-reaches, self-touches}
-use Rattle.model.proofs.Presented.{machine-check-first, entry-pends, entry-touches, idle-touches}
-use Rattle.model.proofs.Presented.{return-pends, return-touches, hand-back-keeps, hand-back-empties}
+use Rattle.model.proofs.IcrWrites.{same-write, icr-reads}
+use Rattle.model.proofs.NoticeCounts.{notice-new, notice-sum, notice-pends, notice-levels}
+use Rattle.model.proofs.IpiNames.{icr-names, self-names, icr-reaches, self-reaches}
+use Rattle.model.proofs.Presented.{machine-check-first, entry-pends, entry-flight, return-pends, return-flight, hand-back-empties}
 use Rattle.model.proofs.ChecksApart.{calls-apart}
 
 -- ---- what acceptance tells
@@ -84,7 +82,6 @@ demand2 =
       reached = sound-reached;
       readBack = λ n l es i. reads-back (final (start n l) es) i (sound-reached n l es i .ruled);
       keepsLevel = keeps-level;
-      callsKeepLevel = calls-keep-level;
       callsKeepPending = calls-keep-pending;
       keepsInactive = keeps-inactive;
       reserved = reserved;
@@ -92,7 +89,6 @@ demand2 =
       sameDelivery = same-delivery;
       sameWrite = same-write;
       icrReads = icr-reads;
-      icrTouches = icr-touches;
       noticeNew = notice-new;
       noticeSum = notice-sum;
       icrNames = icr-names;
@@ -100,28 +96,20 @@ demand2 =
       icrReaches = icr-reaches;
       noticePends = notice-pends;
       noticeLevels = notice-levels;
-      noticeTouches = notice-touches;
       selfReaches = self-reaches;
-      selfTouches = self-touches;
       keepsBeyond = keeps-beyond;
       machineCheckFirst = machine-check-first;
       entryPends = entry-pends;
-      entryTouches = entry-touches;
+      entryFlight = entry-flight;
       returnPends = return-pends;
-      returnTouches = return-touches;
+      returnFlight = return-flight;
       handBackEmpties = hand-back-empties;
-      callsKeepMachineChecks = calls-keep-machine-checks;
       callsApart = calls-apart;
-      keepsOthers = keeps-others;
-      handBackKeeps = hand-back-keeps;
       callsForget = calls-forget;
-      idleTouches = idle-touches;
       nmiAdmitted = nmi-admitted;
       machineCheckAdmitted = machine-check-admitted;
       callPermits = call-permits;
       listIsCalls = list-is-calls;
       listGives = list-gives;
       listWrites = list-writes;
-      permitTouches = permit-touches;
-      listTouches = list-touches;
     }

@@ -198,9 +198,3 @@ by-answer m i x r P h =
 pub icr-reads : (m : Module) (i x z r : ℕ) → step m (writesIcr i x) .result ≡ done r
     → step (next m (writesIcr i x)) (at i (call 2 0x830 z)) .result ≡ done x
 icr-reads m i x z r = by-answer m i x r (λ b u. step u (at i (call 2 0x830 z)) .result ≡ done x) (reads-after m i x z)
-
-pub icr-touches : (m : Module) (i x j r : ℕ) → step m (writesIcr i x) .result ≡ done r
-    → unmarkAll (vcpuAt (next m (writesIcr i x)) j) ≡ unmarkAll (cond (eqb j i) (withIcr x (forget (vcpuAt m j))) (vcpuAt m j))
-icr-touches m i x j r =
-    by-answer m i x r (λ b u. unmarkAll (vcpuAt u j) ≡ unmarkAll (cond (eqb j i) (withIcr x (forget (vcpuAt m j))) (vcpuAt m j)))
-    (λ k. touched m i x j (k .there))

@@ -21,14 +21,14 @@ use Rattle.model.specs.declared.Vcpu.{Vcpu}
 use Rattle.model.specs.declared.Module.{Module}
 use Rattle.model.specs.State.{isActive, size, vcpuAt, withVcpu, withRegistrations, withIcr}
 use Rattle.model.specs.Codes.{accept, done}
-use Rattle.model.specs.Items.{InRange, sameItem, pending, mark, unmarkAll}
+use Rattle.model.specs.Items.{InRange, sameItem, pending, mark}
 use Rattle.model.specs.Registers.{isRead, isWrite, isBoth, kindOf}
 use Rattle.model.specs.Requests.{bad, writeValue, requestOf, forget, serve, callVerdict}
 use Rattle.model.specs.Ipi.{icrType, icrVector, icrItem, icrTarget, hits, reached, reach, newBits}
 use Rattle.model.specs.Events.{call, at, vcpuVerdict, verdict, callEffect, effect, effectOf, concluded, step, next}
 use Rattle.model.specs.Demand2.{writesIcr, sendsSelf}
 use Rattle.model.proofs.Stored.{on-put, get-put, vcpuAt-count, vcpuAt-sent, size-put, size-count, size-le, needed, by-verdict, Known, known-of}
-use Rattle.model.proofs.ItemLaws.{pending-mark, unmarked-mark}
+use Rattle.model.proofs.ItemLaws.{pending-mark}
 use Rattle.model.proofs.IcrWrites.{number-of, writtenAfter, by-answer}
 
 -- ---- what an IPI makes pending
@@ -195,11 +195,3 @@ self-reaches m i x r =
     (ap (pending (Vector x)) (get-put m i (mark (Vector x) (forget (vcpuAt m i))) (s .there))
     ∙ pending-mark (Vector x) (vector-small x v) (Vector x) (forget (vcpuAt m i))
     ∙ ap (λ (b : Bool). b || pending (Vector x) (vcpuAt m i)) (same-item (Vector x))))
-
-pub self-touches : (m : Module) (i x j r : ℕ) → step m (sendsSelf i x) .result ≡ done r
-    → unmarkAll (vcpuAt (next m (sendsSelf i x)) j) ≡ unmarkAll (cond (eqb j i) (forget (vcpuAt m j)) (vcpuAt m j))
-self-touches m i x j r =
-    by-self m i x r (λ b u. unmarkAll (vcpuAt u j) ≡ unmarkAll (cond (eqb j i) (forget (vcpuAt m j)) (vcpuAt m j)))
-    (λ v s. rw (vcpuAt-count)
-    (on-put m i (mark (Vector x) (forget (vcpuAt m i))) j (s .there) (λ _ b u w. unmarkAll w ≡ unmarkAll (cond b (forget u) u))
-    (unmarked-mark (Vector x) (forget (vcpuAt m i))) refl))

@@ -1,7 +1,7 @@
 -- The laws of what is pending, by item: what each change makes pending, and that it leaves all else.
 -- Assumes nothing.
 use mathlib.Core.Path.{_≡_, refl, sym, ap, _∙_}
-use mathlib.Core.Bool.{Bool, true, false, not, _&&_, _||_, or-comm}
+use mathlib.Core.Bool.{Bool, false, not, _&&_, _||_, or-comm}
 use Rattle.model.specs.declared.Item.{Item}
 use Rattle.model.specs.declared.Item.the-variants.{Nmi, MachineCheck, Vector}
 use Rattle.model.specs.declared.Vcpu.{Vcpu}
@@ -48,15 +48,6 @@ unmarked-rest u v h =
 
 pub unmarked-mark : (y : Item) (v : Vcpu) → unmarkAll (mark y v) ≡ unmarkAll v
 unmarked-mark y v = unmarked-rest (mark y v) v (rest-mark y v)
-
-pub rest-unmark : (y : Item) (v : Vcpu) → Rest (unmark y v) v
-unfolding unmark
-rest-unmark Nmi v = refl
-rest-unmark MachineCheck v = refl
-rest-unmark (Vector y) v = refl
-
-pub unmarked-unmark : (y : Item) (v : Vcpu) → unmarkAll (unmark y v) ≡ unmarkAll v
-unmarked-unmark y v = unmarked-rest (unmark y v) v (rest-unmark y v)
 
 pub pending-unmark : (x : Item) → InRange x → (y : Item) (v : Vcpu) → pending x (unmark y v) ≡ (not (sameItem x y) && pending x v)
 unfolding unmark

@@ -1,5 +1,5 @@
--- What an event keeps, of every module value: PL and what is pending under a guest call, the members of PL under a request, the record of a vCPU
--- that is not active, the records of other vCPUs, and what stands at n and above.
+-- What an event keeps, of every module value, beside what LeftAlone says: what is pending under a guest call, the members of PL under a request, the
+-- record of a vCPU that is not active, and what stands at n and above.
 -- Assumes nothing.
 use mathlib.Core.Path.{_≡_, refl, sym, ap, _∙_, subst}
 use mathlib.Core.Bool.{Bool, true, false, cond, _&&_, _||_, or-true}
@@ -27,7 +27,7 @@ use Rattle.model.specs.Requests.{requestOf, forget, leaveIf, serve}
 use Rattle.model.specs.Events.{Act, notice, call, entry, nonDelivery, handBack, allow, at, Bytes, Event, noticed, Reply, gives}
 use Rattle.model.specs.Events.{sends, callEffect, effect, effectOf, store, deliver, concluded, next}
 use Rattle.model.specs.Causes.{isHandBack}
-use Rattle.model.specs.Demand2.{isRequest, isCall}
+use Rattle.model.specs.Demand2.{isRequest}
 use Rattle.vector_set.specs.Sets.{has, highest}
 use Rattle.vector_set.proofs.Laws.{clash, has-collect}
 use Rattle.model.proofs.Stored.{on-put, by-reach, vcpuAt-count, vcpuAt-sent, size-put, size-count, by-verdict, known-of, servedIn}
@@ -97,16 +97,6 @@ calls-keep Q s m i op c x j h =
     (on-put m i (effectOf m e .vcpu) j (known-of m i (call op c x) p .there) (λ _ _ u v. On Q u → On Q v)
     (kept-call Q s (requestOf op c x) i (m .registrations) (vcpuAt m i)) (λ q. q) h)))
 
--- PL is the set p
-abbrev LevelIs : List ℕ → Said
-LevelIs p nmi mc irr pl = pl ≡ p
-
-level-marks : (p : List ℕ) → Marks (LevelIs p)
-level-marks p y n v h = ap (λ (u : Vcpu). u .«irr_level») (rest-mark y v) ∙ h
-
-pub calls-keep-level : (m : Module) (i op c x j : ℕ) → vcpuAt (next m (at i (call op c x))) j .«irr_level» ≡ vcpuAt m j .«irr_level»
-calls-keep-level m i op c x j = calls-keep (LevelIs (vcpuAt m j .«irr_level»)) (level-marks (vcpuAt m j .«irr_level»)) m i op c x j refl
-
 -- the item y is pending
 abbrev IsPending : Item → Said
 IsPending y nmi mc irr pl = pendingIn y nmi mc irr ≡ true
@@ -117,19 +107,6 @@ pending-marks y r z n v h = pending-mark y r z v ∙ rw (h, or-true)
 pub calls-keep-pending : (m : Module) (i op c x j : ℕ) (y : Item) → InRange y → pending y (vcpuAt m j) ≡ true
     → pending y (vcpuAt (next m (at i (call op c x))) j) ≡ true
 calls-keep-pending m i op c x j y r h = calls-keep (IsPending y) (pending-marks y r) m i op c x j h
-
--- the machine check's mark is b
-abbrev CheckIs : Bool → Said
-CheckIs b nmi mc irr pl = mc ≡ b
-
-check-marks : (b : Bool) → Marks (CheckIs b)
-unfolding mark
-check-marks b item.Nmi n v h = h
-check-marks b item.MachineCheck n v h = clash (cc)
-check-marks b (item.Vector x) n v h = h
-
-pub calls-keep-machine-checks : (m : Module) (i op c x j : ℕ) → vcpuAt (next m (at i (call op c x))) j .«machine_check» ≡ vcpuAt m j .«machine_check»
-calls-keep-machine-checks m i op c x j = calls-keep (CheckIs (vcpuAt m j .«machine_check»)) (check-marks (vcpuAt m j .«machine_check»)) m i op c x j refl
 
 -- ---- a request takes no vector out of PL
 -- x stays in PL from the record u to v
@@ -201,25 +178,6 @@ keeps-inactive m e j h b =
     (on-put m (e .vcpu) (effectOf m e .vcpu) j (k .there) (λ _ t u v. isActive (u .phase) ≡ false → (isHandBack (e .act) && t) ≡ false → v ≡ u)
     (λ q r. own-phase (e .act) (vcpuAt m (e .vcpu)) (k .phase) q r) (λ q r. refl) h b)) in
     inactive-delivered (effectOf m e .reply) (e .vcpu) _ j (ap (λ (v : Vcpu). isActive (v .phase)) s ∙ h) ∙ s)
-
--- ---- an event that is no call leaves the records of other vCPUs
--- it sends nothing
-no-sending : (l i k : ℕ) (v : Vcpu) (a : Act Bytes) (m : Module) → isCall a ≡ false → deliver (effect l i k v a .reply) i m ≡ m
-unfolding effect
-no-sending l i k v (notice p) m h = refl
-no-sending l i k v (call op c x) m h = clash (cc)
-no-sending l i k v (entry iF sh bl) m h = refl
-no-sending l i k v nonDelivery m h = refl
-no-sending l i k v (handBack p iF sh) m h = refl
-no-sending l i k v (allow cs q) m h = refl
-
-pub keeps-others : (m : Module) (e : Event) (j : ℕ) → isCall (e .act) ≡ false → eqb j (e .vcpu) ≡ false → vcpuAt (next m e) j ≡ vcpuAt m j
-unfolding concluded
-keeps-others m e j h n =
-    by-verdict m e (λ o. vcpuAt (o .after) j ≡ vcpuAt m j) (λ c p. refl)
-    (λ p. ap (λ (u : Module). vcpuAt u j) (no-sending (m .vmpl) (e .vcpu) (m .registrations) (vcpuAt m (e .vcpu)) (e .act) _ h)
-    ∙ rw (vcpuAt-count)
-    (on-put m (e .vcpu) (effectOf m e .vcpu) j (known-of m (e .vcpu) (e .act) p .there) (λ _ t u v. t ≡ false → v ≡ u) (λ q. clash (cc)) (λ q. refl) n))
 
 -- ---- no event changes a place at n or above
 beyond-delivered : (r : Reply) (i : ℕ) (m : Module) (j : ℕ) → size m ≤ j → vcpuAt (deliver r i m) j ≡ vcpuAt m j

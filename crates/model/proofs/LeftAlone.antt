@@ -1,19 +1,17 @@
 -- Why an event changes nothing that its row of the table does not name.
 -- Assumes nothing.
-use mathlib.Core.Path.{_≡_, refl, sym, ap, _∙_, subst}
-use mathlib.Core.Bool.{Bool, true, false}
+use mathlib.Core.Path.{_≡_, refl, _∙_}
+use mathlib.Core.Bool.{false}
 use mathlib.Core.List.{[]}
 use Prim.Native.Nat.{ℕ, _<_}
 use lib.Dec.{eqb}
 use lib.ListN.{length}
-use Rattle.model.specs.declared.Item.{Item}
-use Rattle.model.specs.declared.Item.the-variants.{Vector}
 use Rattle.model.specs.declared.Vcpu.{Vcpu}
 use Rattle.model.specs.declared.Module.{Module}
 use Rattle.model.specs.State.{size, vcpuAt, withVcpu, withRegistrations}
 use Rattle.model.specs.Codes.{presentedBy}
 use Rattle.model.specs.Ipi.{icrItem, icrTarget, sent}
-use Rattle.model.specs.Events.{Event, Reply, gives, sends, Effect, effectOf, store, deliver, Out, concluded, step, next}
+use Rattle.model.specs.Events.{Event, Reply, gives, sends, Effect, effectOf, store, deliver, Out, concluded, next}
 use Rattle.model.specs.Touches.{Field, Same, setIn, listed, Touched, icrTouches, actTouches, touches, LeavesAlone}
 use Rattle.vector_set.specs.Sets.{has}
 use Rattle.vector_set.proofs.Laws.{clash}

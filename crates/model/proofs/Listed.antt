@@ -23,11 +23,11 @@ use Rattle.model.specs.Codes.{codeOf, Verdict, accept, refuse, need, ver
 use Rattle.model.specs.Requests.{bad, nameable, permission, requestOf, forget, serve, callVerdict}
 use Rattle.model.specs.Events.{call, allow, at, Bytes, listFits, vcpuVerdict, verdict, callEffect, single, byVerdict, singleAfter, listAfter}
 use Rattle.model.specs.Events.{listCodes, effect, Out, concluded, step, next, run, final}
-use Rattle.model.specs.Demand2.{singles, codesOf, permitsApart}
-use Rattle.model.proofs.Stored.{on-put, vcpuAt-count, get-put, put-same, put-put, put-length, size-put, count-same, by-verdict, Known}
-use Rattle.model.proofs.Stored.{served-known, known-of}
+use Rattle.model.specs.Demand2.{singles, codesOf}
+use Rattle.model.proofs.Stored.{get-put, put-same, put-put, put-length, size-put, count-same, by-verdict, Known}
+use Rattle.model.proofs.Stored.{known-of}
 use Rattle.model.proofs.IcrWrites.{over, asks, by-request}
-use Rattle.model.proofs.ListLaws.{after-one, after-each}
+use Rattle.model.proofs.ListLaws.{after-one}
 
 -- ---- one value
 -- the result of a call 4 with the verdict g
@@ -225,44 +225,3 @@ list-writes m i x cs q =
     room h =
         let l = leb-true (length cs) (length q) (fits (ltb i (size m)) (isActive (v .phase)) (leb (length cs) 256) (leb (length cs) (length q)) h) in
         subst (λ (n : ℕ). n ≤ length q) (sym (length-codes i k cs v)) l
-
--- ---- what call 4 and a list leave alone
-apart-permitted : (c : ℕ) (n t : Bool) (i k : ℕ) (v : Vcpu) → permitsApart (callEffect (permission-by c n t) i k v .vcpu) ≡ permitsApart v
-unfolding callEffect serve
-apart-permitted c true true i k v = refl
-apart-permitted c true false i k v = refl
-apart-permitted c false t i k v = refl
-
-apart-single : (i k : ℕ) (w : Vcpu) (c : ℕ) (v : Vcpu) → permitsApart v ≡ permitsApart w
-    → permitsApart (callEffect (requestOf 4 c 0) i k v .vcpu) ≡ permitsApart w
-unfolding requestOf permission
-apart-single i k w c v h = apart-permitted c (nameable c) (bitAt c 8) i k v ∙ h
-
-pub permit-touches : (m : Module) (i c x j : ℕ) → permitsApart (vcpuAt (next m (at i (call 4 c x))) j) ≡ permitsApart (vcpuAt m j)
-permit-touches m i c x j = pick (ltb i (size m)) (isActive (vcpuAt m i .phase)) refl refl
-  where
-    v : Vcpu
-    v = vcpuAt m i
-
-    touched : Known m i isActive → permitsApart (vcpuAt (next m (at i (call 4 c x))) j) ≡ permitsApart (vcpuAt m j)
-    touched k =
-        ap (λ (o : Out). permitsApart (vcpuAt (o .after) j)) (single-out m i c x k)
-        ∙ on-put m i (singleAfter i (m .registrations) c v) j (k .there) (λ _ _ u w. permitsApart w ≡ permitsApart u)
-        (after-one (λ u. permitsApart u ≡ permitsApart v) i (m .registrations) (apart-single i (m .registrations) v) c v refl) refl
-
-    untouched : isServed m i ≡ false → permitsApart (vcpuAt (next m (at i (call 4 c x))) j) ≡ permitsApart (vcpuAt m j)
-    untouched e = ap (λ (u : Module). permitsApart (vcpuAt u j)) (refused-call m i c x e)
-
-    pick : (a b : Bool) → ltb i (size m) ≡ a → isActive (v .phase) ≡ b → permitsApart (vcpuAt (next m (at i (call 4 c x))) j) ≡ permitsApart (vcpuAt m j)
-    pick true true e f = touched (served-known m i e f)
-    pick true false e f = untouched (rw (e, f))
-    pick false b e f = untouched (rw e)
-
-pub list-touches : (m : Module) (i : ℕ) (cs : List ℕ) (q : Bytes) (j : ℕ) → permitsApart (vcpuAt (next m (at i (allow cs q))) j) ≡ permitsApart (vcpuAt m j)
-unfolding concluded effect
-list-touches m i cs q j =
-    let v = vcpuAt m i in
-    by-verdict m (at i (allow cs q)) (λ o. permitsApart (vcpuAt (o .after) j) ≡ permitsApart (vcpuAt m j)) (λ d h. refl)
-    (λ h. rw (vcpuAt-count)
-    (on-put m i (listAfter i (m .registrations) cs v) j (known-of m i (allow cs q) h .there) (λ _ _ u w. permitsApart w ≡ permitsApart u)
-    (after-each (λ u. permitsApart u ≡ permitsApart v) i (m .registrations) (apart-single i (m .registrations) v) cs v refl) refl))

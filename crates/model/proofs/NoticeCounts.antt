@@ -16,14 +16,14 @@ use Rattle.model.specs.declared.Item.{Item}
 use Rattle.model.specs.declared.Item.the-variants.{Nmi, MachineCheck, Vector}
 use Rattle.model.specs.declared.Vcpu.{Vcpu}
 use Rattle.model.specs.declared.Module.{Module}
-use Rattle.model.specs.State.{vcpuAt, withIrrLevel}
+use Rattle.model.specs.State.{vcpuAt}
 use Rattle.model.specs.Codes.{counted}
-use Rattle.model.specs.Items.{InRange, itemCount, pending, markAll, unmarkAll}
+use Rattle.model.specs.Items.{InRange, itemCount, pending}
 use Rattle.model.specs.Doorbell.{bitOf, levelBit, manyBit, vectorField, isVector, Part, noPart, isLevel, inPart, announces, descriptor}
 use Rattle.model.specs.Doorbell.{nmiBit, machineCheckBit, admitsMark, admitsLevel, admitsEdge, admits, admitted, items}
 use Rattle.model.specs.Events.{notice, at, Bytes, noticed, itemsNew, itemsMerged, effect, concluded, step, next}
-use Rattle.model.proofs.Stored.{on-put, stored-at, vcpuAt-count, by-verdict, known-of}
-use Rattle.model.proofs.ItemLaws.{pending-markAll, rest-markAll, unmarked-rest}
+use Rattle.model.proofs.Stored.{stored-at, by-verdict, known-of}
+use Rattle.model.proofs.ItemLaws.{pending-markAll}
 
 -- ---- items counted
 pub item-count-ext : (f g : Item → Bool) → ((x : Item) → InRange x → f x ≡ g x) → itemCount f ≡ itemCount g
@@ -102,23 +102,6 @@ notice-levels m i p a b x r =
     (λ c h e. clash (cc))
     (λ h e. ap (λ (w : Vcpu). has (w .«irr_level») x) (stored-at m i (m .registrations) (noticed s v) (known-of m i (notice p) h .there))
     ∙ has-collect (λ y. has (v .«irr_level») y || isLevel (s .level) y) x r)
-
--- PL, P and the marks apart, a notice changes nothing of a record
-unmarked-noticed : (a : Part) (v : Vcpu) → withIrrLevel empty (unmarkAll (noticed a v)) ≡ withIrrLevel empty (unmarkAll v)
-unfolding noticed unmarkAll
-unmarked-noticed a v = ap (withIrrLevel empty) (unmarked-rest (markAll (λ x. inPart x a) v) v (rest-markAll (λ x. inPart x a) v))
-
-pub notice-touches : (m : Module) (i : ℕ) (p : Bytes) (a b j : ℕ) → step m (at i (notice p)) .result ≡ counted a b
-    → withIrrLevel empty (unmarkAll (vcpuAt (next m (at i (notice p))) j)) ≡ withIrrLevel empty (unmarkAll (vcpuAt m j))
-unfolding concluded effect
-notice-touches m i p a b j =
-    by-verdict m (at i (notice p))
-    (λ o. o .result ≡ counted a b → withIrrLevel empty (unmarkAll (vcpuAt (o .after) j)) ≡ withIrrLevel empty (unmarkAll (vcpuAt m j)))
-    (λ c h e. clash (cc))
-    (λ h e. rw (vcpuAt-count)
-    (on-put m i (noticed (admitted (m .vmpl) (vcpuAt m i .allowed) p) (vcpuAt m i)) j (known-of m i (notice p) h .there)
-    (λ _ _ u w. withIrrLevel empty (unmarkAll w) ≡ withIrrLevel empty (unmarkAll u))
-    (unmarked-noticed (admitted (m .vmpl) (vcpuAt m i .allowed) p) (vcpuAt m i)) refl))
 
 -- ---- the two numbers together
 together : (a : Part) (v : Vcpu) → itemsNew a v + itemsMerged a v ≡ itemCount (λ x. inPart x a)

@@ -4,7 +4,7 @@ use mathlib.Core.Path.{_≡_, refl, sym, ap, _∙_}
 use mathlib.Core.Bool.{Bool, true, false, cond, not, _&&_, _||_}
 use mathlib.Core.Option.{Option, none, some}
 use Prim.Native.Nat.{ℕ}
-use lib.Dec.{leb, eqb}
+use lib.Dec.{leb}
 use Rattle.vector_set.specs.Sets.{highest}
 use Rattle.vector_set.specs.Summaries.{inMarked}
 use Rattle.vector_set.proofs.Laws.{clash}
@@ -13,15 +13,15 @@ use Rattle.model.specs.declared.Item.{Item}
 use Rattle.model.specs.declared.Item.the-variants.{Nmi, MachineCheck, Vector}
 use Rattle.model.specs.declared.Vcpu.{Vcpu}
 use Rattle.model.specs.declared.Module.{Module}
-use Rattle.model.specs.State.{vcpuAt, withFlight}
+use Rattle.model.specs.State.{vcpuAt}
 use Rattle.model.specs.Codes.{Answer, nothing, presents, window, done, answers, presentedIn}
-use Rattle.model.specs.Items.{InRange, hasMark, sameItem, isItem, itemInFlight, flightOf, pending, mark, unmark, unmarkAll}
+use Rattle.model.specs.Items.{InRange, sameItem, isItem, itemInFlight, pending}
 use Rattle.model.specs.Registers.{class, ppr}
 use Rattle.model.specs.Requests.{forget}
 use Rattle.model.specs.Events.{entry, nonDelivery, handBack, at, Bytes, offerHighest, offerWith, offer, present, entered}
 use Rattle.model.specs.Events.{giveBack, undelivered, emptied}
 use Rattle.model.specs.Events.{effect, concluded, step, next}
-use Rattle.model.proofs.Stored.{on-put, stored-at, vcpuAt-count, by-verdict, known-of}
+use Rattle.model.proofs.Stored.{stored-at, by-verdict, known-of}
 use Rattle.model.proofs.ItemLaws.{pending-mark, pending-unmark, pending-unmarkAll}
 
 -- ---- the record
@@ -101,47 +101,24 @@ entry-pends m i iF sh bl a x r =
     ∙ pending-entered x r (offer iF sh bl v) v
     ∙ ap (λ (z : Answer). not (isItem x (presentedIn z)) && pending x v) (same-answer e))
 
--- P and the marks apart, an item with a mark touches what is in flight alone
-unmarked-entered : (y : Item) → hasMark y ≡ true → (v : Vcpu) → unmarkAll (entered (presents y) (forget v)) ≡ unmarkAll (withFlight (flightOf y) v)
-unfolding entered present unmark unmarkAll
-unmarked-entered Nmi h v = refl
-unmarked-entered MachineCheck h v = refl
-unmarked-entered (Vector x) h v = clash (cc)
-
-pub entry-touches : (m : Module) (i : ℕ) (iF sh bl : Bool) (y : Item) (j : ℕ) → hasMark y ≡ true
-    → step m (at i (entry iF sh bl)) .result ≡ answers (presents y)
-    → unmarkAll (vcpuAt (next m (at i (entry iF sh bl))) j) ≡ unmarkAll (cond (eqb j i) (withFlight (flightOf y) (vcpuAt m j)) (vcpuAt m j))
-unfolding concluded effect
-entry-touches m i iF sh bl y j q =
-    let v = vcpuAt m i in
-    by-verdict m (at i (entry iF sh bl))
-    (λ o. o .result ≡ answers (presents y)
-    → unmarkAll (vcpuAt (o .after) j) ≡ unmarkAll (cond (eqb j i) (withFlight (flightOf y) (vcpuAt m j)) (vcpuAt m j)))
-    (λ c h e. clash (cc))
-    (λ h e. rw (vcpuAt-count)
-    (on-put m i (entered (offer iF sh bl v) (forget v)) j (known-of m i (entry iF sh bl) h .there)
-    (λ _ b u w. unmarkAll w ≡ unmarkAll (cond b (withFlight (flightOf y) u) u))
-    (ap (λ (z : Answer). unmarkAll (entered z (forget v))) (same-answer e) ∙ unmarked-entered y q v) refl))
-
--- where it presents nothing
-idle-entered : (a : Answer) → presentedIn a ≡ none → (v : Vcpu) → entered a (forget v) ≡ forget v
+flight-entered : (a : Answer) (v : Vcpu) → itemInFlight (entered a (forget v) .flight) ≡ presentedIn a
 unfolding entered
-idle-entered nothing h v = refl
-idle-entered (presents y) h v = clash (cc)
-idle-entered (window x) h v = refl
+flight-entered nothing v = refl
+flight-entered (presents Nmi) v = refl
+flight-entered (presents MachineCheck) v = refl
+flight-entered (presents (Vector x)) v = refl
+flight-entered (window x) v = refl
 
-pub idle-touches : (m : Module) (i : ℕ) (iF sh bl : Bool) (a : Answer) (j : ℕ) → presentedIn a ≡ none → step m (at i (entry iF sh bl)) .result ≡ answers a
-    → vcpuAt (next m (at i (entry iF sh bl))) j ≡ cond (eqb j i) (withFlight flight.Nothing (vcpuAt m j)) (vcpuAt m j)
+pub entry-flight : (m : Module) (i : ℕ) (iF sh bl : Bool) (a : Answer) → step m (at i (entry iF sh bl)) .result ≡ answers a
+    → itemInFlight (vcpuAt (next m (at i (entry iF sh bl))) i .flight) ≡ presentedIn a
 unfolding concluded effect
-idle-touches m i iF sh bl a j q =
+entry-flight m i iF sh bl a =
     let v = vcpuAt m i in
-    by-verdict m (at i (entry iF sh bl))
-    (λ o. o .result ≡ answers a → vcpuAt (o .after) j ≡ cond (eqb j i) (withFlight flight.Nothing (vcpuAt m j)) (vcpuAt m j))
+    by-verdict m (at i (entry iF sh bl)) (λ o. o .result ≡ answers a → itemInFlight (vcpuAt (o .after) i .flight) ≡ presentedIn a)
     (λ c h e. clash (cc))
-    (λ h e. rw (vcpuAt-count)
-    (on-put m i (entered (offer iF sh bl v) (forget v)) j (known-of m i (entry iF sh bl) h .there)
-    (λ _ b u w. w ≡ cond b (withFlight flight.Nothing u) u)
-    (ap (λ (z : Answer). entered z (forget v)) (same-answer e) ∙ idle-entered a q v) refl))
+    (λ h e. ap (λ (u : Vcpu). itemInFlight (u .flight))
+    (stored-at m i (m .registrations) (entered (offer iF sh bl v) (forget v)) (known-of m i (entry iF sh bl) h .there))
+    ∙ flight-entered (offer iF sh bl v) v ∙ ap presentedIn (same-answer e))
 
 -- ---- a non-delivery
 pub return-pends : (m : Module) (i r : ℕ) (x : Item) → InRange x → step m (at i nonDelivery) .result ≡ done r
@@ -154,42 +131,21 @@ return-pends m i r x q =
     (λ h e. ap (pending x) (stored-at m i (m .registrations) (undelivered (itemInFlight (v .flight)) v) (known-of m i nonDelivery h .there))
     ∙ pending-undelivered x q (itemInFlight (v .flight)) v)
 
-unmarked-returned : (y : Item) → hasMark y ≡ true → (v : Vcpu) → unmarkAll (undelivered (some y) v) ≡ unmarkAll (withFlight flight.Nothing v)
-unfolding undelivered giveBack mark unmarkAll
-unmarked-returned Nmi h v = refl
-unmarked-returned MachineCheck h v = refl
-unmarked-returned (Vector x) h v = clash (cc)
+flight-returned : (o : Option Item) (v : Vcpu) → undelivered o v .flight ≡ flight.Nothing
+unfolding undelivered
+flight-returned none v = refl
+flight-returned (some y) v = refl
 
-pub return-touches : (m : Module) (i r : ℕ) (y : Item) (j : ℕ) → hasMark y ≡ true → itemInFlight (vcpuAt m i .flight) ≡ some y
-    → step m (at i nonDelivery) .result ≡ done r
-    → unmarkAll (vcpuAt (next m (at i nonDelivery)) j) ≡ unmarkAll (cond (eqb j i) (withFlight flight.Nothing (vcpuAt m j)) (vcpuAt m j))
+pub return-flight : (m : Module) (i r : ℕ) → step m (at i nonDelivery) .result ≡ done r → vcpuAt (next m (at i nonDelivery)) i .flight ≡ flight.Nothing
 unfolding concluded effect
-return-touches m i r y j q f =
+return-flight m i r =
     let v = vcpuAt m i in
-    by-verdict m (at i nonDelivery)
-    (λ o. o .result ≡ done r → unmarkAll (vcpuAt (o .after) j) ≡ unmarkAll (cond (eqb j i) (withFlight flight.Nothing (vcpuAt m j)) (vcpuAt m j)))
+    by-verdict m (at i nonDelivery) (λ o. o .result ≡ done r → vcpuAt (o .after) i .flight ≡ flight.Nothing)
     (λ c h e. clash (cc))
-    (λ h e. rw (vcpuAt-count)
-    (on-put m i (undelivered (itemInFlight (v .flight)) v) j (known-of m i nonDelivery h .there)
-    (λ _ b u w. unmarkAll w ≡ unmarkAll (cond b (withFlight flight.Nothing u) u))
-    (ap (λ (z : Option Item). unmarkAll (undelivered z v)) f ∙ unmarked-returned y q v) refl))
+    (λ h e. ap (λ (u : Vcpu). u .flight) (stored-at m i (m .registrations) (undelivered (itemInFlight (v .flight)) v) (known-of m i nonDelivery h .there))
+    ∙ flight-returned (itemInFlight (v .flight)) v)
 
 -- ---- a hand-back
--- TPR, ICR and what is in flight stay
-abbrev Keeps : Vcpu → Vcpu → Type 0
-Keeps u v = (v .tpr ≡ u .tpr) × (v .icr ≡ u .icr) × (v .flight ≡ u .flight)
-
-kept-emptied : (v : Vcpu) → Keeps v (emptied v)
-unfolding emptied unmarkAll
-kept-emptied v = (refl, refl, refl)
-
-pub hand-back-keeps : (m : Module) (i : ℕ) (p : Bytes) (iF sh : Bool) (j : ℕ) → Keeps (vcpuAt m j) (vcpuAt (next m (at i (handBack p iF sh))) j)
-unfolding concluded effect
-hand-back-keeps m i p iF sh j =
-    by-verdict m (at i (handBack p iF sh)) (λ o. Keeps (vcpuAt m j) (vcpuAt (o .after) j)) (λ c h. (refl, refl, refl))
-    (λ h. rw (vcpuAt-count)
-    (on-put m i (emptied (vcpuAt m i)) j (known-of m i (handBack p iF sh) h .there) (λ _ _ u v. Keeps u v) (kept-emptied (vcpuAt m i)) (refl, refl, refl)))
-
 pub hand-back-empties : (m : Module) (i r : ℕ) (p : Bytes) (iF sh : Bool) (x : Item) → InRange x → step m (at i (handBack p iF sh)) .result ≡ done r
     → pending x (vcpuAt (next m (at i (handBack p iF sh))) i) ≡ false
 unfolding concluded effect

@@ -8,8 +8,6 @@ use Prim.Native.Nat.{ℕ, _-_, _<_, _≤_}
 use native.Mathlib.Omega.{arith}
 use lib.Dec.{leb, eqb}
 use borrow.Author.Tests.{eqb-true, eq-eqb}
-use Rattle.model.specs.declared.Phase.{Phase}
-use Rattle.model.specs.declared.Phase.the-variants.{Active, Leaving, Left}
 use Rattle.model.specs.declared.InFlight.{InFlight}
 use Rattle.model.specs.declared.InFlight.the-variants as flight
 use Rattle.model.specs.declared.Item.{Item}
@@ -33,7 +31,7 @@ use Rattle.vector_set.specs.Sets.{Words, has, empty, insert, remove, highest}
 use Rattle.vector_set.specs.Summaries.{inMarked}
 use Rattle.vector_set.proofs.Laws.{clash, has-empty, has-insert, has-remove, words-empty, words-insert, words-remove}
 use Rattle.vector_set.proofs.SummaryLaws.{marked-has}
-use Rattle.model.proofs.Stored.{servedIn}
+use Rattle.model.proofs.Stored.{servedIn, leaving-inactive}
 use Rattle.model.proofs.Allowed.{admitted-fits}
 use Rattle.model.proofs.LevelledLaws.{levelled, levelled-empty, levelled-low, levelled-remove, levelled-insert, levelled-gains}
 use Rattle.model.proofs.Fitting.{Fitting, FittingRequest, fitting-request}
@@ -247,15 +245,10 @@ sound-undelivered (some (item.Vector x)) v q h =
 pub none-named : (y : ℕ) → y < 256 → has empty y ≡ true → mayName y ≡ true
 none-named y l e = let z = has-empty y l in clash (cc)
 
-not-active : (p : Phase) → isLeaving p ≡ true → isActive p ≡ false
-not-active Active e = clash (cc)
-not-active Leaving e = refl
-not-active Left e = refl
-
 -- of a leaving vCPU
 sound-emptied : (v : Vcpu) → isLeaving (v .phase) ≡ true → Formed v → Formed (emptied v)
 unfolding emptied unmarkAll empty
-sound-emptied v on h = at-rest _ words-empty none-named levelled-empty levelled-empty (h .inactive (not-active (v .phase) on))
+sound-emptied v on h = at-rest _ words-empty none-named levelled-empty levelled-empty (h .inactive (leaving-inactive (v .phase) on .0))
 
 -- ---- what an accepted event gives
 -- an ICR write sends a vector that P may hold, or the NMI

@@ -10,14 +10,14 @@ use lib.ListN.{length, getD, set, length-set, List·getD-eq-default}
 use lib.Seq.{getD-set-same, getD-set-other, set-getD}
 use borrow.Author.Tests.{eqb-true, eqb-false, leb-true, ltb-true, ltb-false}
 use Rattle.model.specs.declared.Phase.{Phase}
-use Rattle.model.specs.declared.Phase.the-variants.{Left}
+use Rattle.model.specs.declared.Phase.the-variants.{Active, Leaving, Left}
 use Rattle.model.specs.declared.Item.{Item}
 use Rattle.model.specs.declared.Refusal.{Refusal}
 use Rattle.model.specs.declared.Refusal.the-variants.{UnknownVcpu, NotActive}
 use Rattle.model.specs.declared.Target.{Target}
 use Rattle.model.specs.declared.Vcpu.{Vcpu}
 use Rattle.model.specs.declared.Module.{Module}
-use Rattle.model.specs.State.{isActive, isLeaving, bare, absent, size, vcpuAt, withVcpu, withRegistrations}
+use Rattle.model.specs.State.{isActive, isLeaving, hasLeft, bare, absent, size, vcpuAt, withVcpu, withRegistrations}
 use Rattle.model.specs.Codes.{Verdict, accept, refuse, need}
 use Rattle.model.specs.Items.{mark}
 use Rattle.model.specs.Ipi.{hits, reached, reach, mapFrom, sent}
@@ -210,3 +210,9 @@ known-of m i (entry iF sh bl) h = known m i isActive refl NotActive accept h
 known-of m i nonDelivery h = known m i isActive refl NotActive _ h
 known-of m i (handBack p iF sh) h = known m i isLeaving refl _ _ h
 known-of m i (allow cs q) h = known m i isActive refl NotActive _ h
+
+-- ---- a leaving vCPU is neither active nor has it left
+pub leaving-inactive : (s : Phase) → isLeaving s ≡ true → (isActive s ≡ false) × (hasLeft s ≡ false)
+leaving-inactive Active e = clash (cc)
+leaving-inactive Leaving e = (refl, refl)
+leaving-inactive Left e = clash (cc)

@@ -1,6 +1,6 @@
 -- What an act leaves of the record of its vCPU and of the count: the fields and vectors that its row of the table does not name.
 -- Assumes nothing.
-use mathlib.Core.Path.{_≡_, refl, sym, ap, _∙_}
+use mathlib.Core.Path.{_≡_, refl, ap, _∙_}
 use mathlib.Core.Bool.{Bool, true, false, cond, not, _&&_, _||_, or-false}
 use mathlib.Core.List.{List, [], _∷_}
 use mathlib.Core.Option.{Option, none, some}
@@ -36,7 +36,7 @@ use Rattle.model.specs.Touches.{names, actTouches}
 use Rattle.vector_set.specs.Bits.{bitAt}
 use Rattle.vector_set.specs.Sets.{has, insert, remove, isVector, highest}
 use Rattle.vector_set.proofs.Laws.{clash, has-collect, has-insert, has-remove}
-use Rattle.model.proofs.ItemLaws.{pending-mark, rest-mark, pending-unmark, rest-unmark, pending-markAll, rest-markAll}
+use Rattle.model.proofs.ItemLaws.{pending-mark, pending-unmark, pending-markAll, rest-markAll}
 use Rattle.model.proofs.ListLaws.{after-single, after-each}
 
 -- ---- fields

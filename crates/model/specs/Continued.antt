@@ -9,7 +9,7 @@ use lib.Dec.{eqb}
 use lib.ListN.{length, take, drop}
 use Rattle.model.specs.declared.Module.{Module}
 use Rattle.model.specs.State.{vcpuAt, mayStart, start, withVcpu, withFlight}
-use Rattle.model.specs.Codes.{Result, done, accepted, codeIn, presentedBy}
+use Rattle.model.specs.Codes.{accepted, codeIn, presentedBy}
 use Rattle.model.specs.Events.{Act, notice, call, entry, nonDelivery, handBack, allow, at, Bytes, Event, knows, step, next, final}
 use Rattle.model.specs.Reached.{Ruled, SoundModule}
 use Rattle.model.specs.Demand2.{ReadsBack}

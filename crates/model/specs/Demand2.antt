@@ -4,7 +4,7 @@
 use mathlib.Core.Path.{_≡_}
 use mathlib.Core.Bool.{Bool, true, false, cond, not, _&&_, _||_}
 use mathlib.Core.List.{List, map}
-use mathlib.Core.Option.{none, some}
+use mathlib.Core.Option.{none}
 use Prim.Native.Nat.{ℕ, _+_, _%_, _^_, _<_, _≤_}
 use lib.Bits.{bitOr}
 use lib.Dec.{ltb, eqb}
@@ -14,9 +14,9 @@ use Rattle.model.specs.declared.Item.the-variants.{MachineCheck, Vector}
 use Rattle.model.specs.declared.InFlight.the-variants.{Nothing}
 use Rattle.model.specs.declared.Vcpu.{Vcpu}
 use Rattle.model.specs.declared.Module.{Module}
-use Rattle.model.specs.State.{isActive, size, vcpuAt, start, withVcpu, withIrrLevel, withMachineCheck, withIcr, withFlight, withAllowed}
+use Rattle.model.specs.State.{isActive, size, vcpuAt, start, withVcpu, withMachineCheck, withIcr}
 use Rattle.model.specs.Codes.{Answer, presents, done, counted, answers, coded, refusalOf, codeIn, presentedIn}
-use Rattle.model.specs.Items.{InRange, hasMark, isItem, itemCount, itemInFlight, flightOf, pending, unmarkAll}
+use Rattle.model.specs.Items.{InRange, isItem, itemCount, itemInFlight, pending}
 use Rattle.model.specs.Doorbell.{bitOf, announces, descriptor, mapBits, announcingBit, Part, isLevel, inPart, admitted, items}
 use Rattle.model.specs.Registers.{within}
 use Rattle.model.specs.Ipi.{icrLegal, icrItem, icrTarget, hits}
@@ -24,7 +24,7 @@ use Rattle.model.specs.Events.{Act, notice, call, entry, nonDelivery, ha
 use Rattle.model.specs.Causes.{isHandBack}
 use Rattle.model.specs.Reached.{Sound}
 use Rattle.vector_set.specs.Bits.{bitAt}
-use Rattle.vector_set.specs.Sets.{has, empty, full, difference, highest}
+use Rattle.vector_set.specs.Sets.{has, full, difference, highest}
 
 -- ---- the read-back
 -- a page with work announced at the VMPL l (13.10)
@@ -105,10 +105,6 @@ singles i x cs = map (λ c. at i (call 4 c x)) cs
 abbrev pub codesOf : Module → List Event → List ℕ
 codesOf m es = map (λ (o : Out). codeIn (o .result)) (run m es)
 
--- a record with nothing allowed and nothing in flight (13.74)
-abbrev pub permitsApart : Vcpu → Vcpu
-permitsApart v = withAllowed empty (withFlight Nothing v)
-
 -- ---- the claim
 -- a request: a notice, a guest call, which may be an IPI, or a list of values (13.17)
 abbrev pub isRequest : Act Bytes → Bool
@@ -125,8 +121,6 @@ pub record Demand2 : Type 0 where
   -- of every module value: a notice, a guest call and a list of values take no vector out of PL, on any vCPU (13.17)
   pub keepsLevel : (m : Module) (e : Event) (j x : ℕ) → x < 256 → isRequest (e .act) ≡ true
       → has (vcpuAt m j .«irr_level») x ≡ true → has (vcpuAt (next m e) j .«irr_level») x ≡ true
-  -- of every module value: a guest call, an IPI among them, leaves PL as it is, on every vCPU (13.39)
-  pub callsKeepLevel : (m : Module) (i op c x j : ℕ) → vcpuAt (next m (at i (call op c x))) j .«irr_level» ≡ vcpuAt m j .«irr_level»
   -- of every module value: nor does it take away what is pending, on any vCPU (13.41)
   pub callsKeepPending : (m : Module) (i op c x j : ℕ) (y : Item) → InRange y → pending y (vcpuAt m j) ≡ true
       → pending y (vcpuAt (next m (at i (call op c x))) j) ≡ true
@@ -143,9 +137,6 @@ pub record Demand2 : Type 0 where
   -- of every module value: a read right after an accepted write gives what was written (13.37)
   pub icrReads : (m : Module) (i x z r : ℕ) → step m (writesIcr i x) .result ≡ done r
       → step (next m (writesIcr i x)) (at i (call 2 0x830 z)) .result ≡ done x
-  -- of every module value: P and the marks apart, an accepted write changes the caller's ICR and what is in flight there, and no other record (13.40)
-  pub icrTouches : (m : Module) (i x j r : ℕ) → step m (writesIcr i x) .result ≡ done r
-      → unmarkAll (vcpuAt (next m (writesIcr i x)) j) ≡ unmarkAll (cond (eqb j i) (withIcr x (withFlight Nothing (vcpuAt m j))) (vcpuAt m j))
   -- of every module value: a notice's first number counts the items that were not pending at its vCPU before it and are after it (13.42)
   pub noticeNew : (m : Module) (i : ℕ) (p : Bytes) (a b : ℕ) → step m (at i (notice p)) .result ≡ counted a b
       → a ≡ itemCount (λ x. pending x (vcpuAt (next m (at i (notice p))) i) && not (pending x (vcpuAt m i)))
@@ -167,14 +158,8 @@ pub record Demand2 : Type 0 where
   pub noticeLevels : (m : Module) (i : ℕ) (p : Bytes) (a b x : ℕ) → x < 256 → step m (at i (notice p)) .result ≡ counted a b
       → has (vcpuAt (next m (at i (notice p))) i .«irr_level») x
       ≡ (has (vcpuAt m i .«irr_level») x || isLevel (admitted (m .vmpl) (vcpuAt m i .allowed) p .level) x)
-  -- and nothing else of any record changes (13.52)
-  pub noticeTouches : (m : Module) (i : ℕ) (p : Bytes) (a b j : ℕ) → step m (at i (notice p)) .result ≡ counted a b
-      → withIrrLevel empty (unmarkAll (vcpuAt (next m (at i (notice p))) j)) ≡ withIrrLevel empty (unmarkAll (vcpuAt m j))
   -- of every module value: after an accepted self-IPI its vector is pending at the caller (13.48)
   pub selfReaches : (m : Module) (i x r : ℕ) → step m (sendsSelf i x) .result ≡ done r → pending (Vector x) (vcpuAt (next m (sendsSelf i x)) i) ≡ true
-  -- P and the marks apart, it changes what is in flight at the caller and nothing else (13.49)
-  pub selfTouches : (m : Module) (i x j r : ℕ) → step m (sendsSelf i x) .result ≡ done r
-      → unmarkAll (vcpuAt (next m (sendsSelf i x)) j) ≡ unmarkAll (cond (eqb j i) (withFlight Nothing (vcpuAt m j)) (vcpuAt m j))
   -- of every module value: no event changes a place at n or above (13.50)
   pub keepsBeyond : (m : Module) (e : Event) (j : ℕ) → size m ≤ j → vcpuAt (next m e) j ≡ vcpuAt m j
   -- of every module value: an accepted entry presents the machine check exactly where it is pending, whatever else is pending, in service or held back
@@ -184,39 +169,24 @@ pub record Demand2 : Type 0 where
   -- of every module value: after an accepted entry what it presented is pending there no more, and of every other item nothing changed (13.54)
   pub entryPends : (m : Module) (i : ℕ) (iF sh bl : Bool) (a : Answer) (x : Item) → InRange x → step m (at i (entry iF sh bl)) .result ≡ answers a
       → pending x (vcpuAt (next m (at i (entry iF sh bl))) i) ≡ (not (isItem x (presentedIn a)) && pending x (vcpuAt m i))
-  -- and one that presents an item with a mark changes, P and the marks apart, what is in flight there and nothing else (13.55)
-  pub entryTouches : (m : Module) (i : ℕ) (iF sh bl : Bool) (y : Item) (j : ℕ) → hasMark y ≡ true
-      → step m (at i (entry iF sh bl)) .result ≡ answers (presents y)
-      → unmarkAll (vcpuAt (next m (at i (entry iF sh bl))) j) ≡ unmarkAll (cond (eqb j i) (withFlight (flightOf y) (vcpuAt m j)) (vcpuAt m j))
+  -- and what it presented, if anything, is in flight there (13.55)
+  pub entryFlight : (m : Module) (i : ℕ) (iF sh bl : Bool) (a : Answer) → step m (at i (entry iF sh bl)) .result ≡ answers a
+      → itemInFlight (vcpuAt (next m (at i (entry iF sh bl))) i .flight) ≡ presentedIn a
   -- of every module value: after an accepted non-delivery what was pending there and what was in flight is pending there, and nothing else (13.56)
   pub returnPends : (m : Module) (i r : ℕ) (x : Item) → InRange x → step m (at i nonDelivery) .result ≡ done r
       → pending x (vcpuAt (next m (at i nonDelivery)) i) ≡ (isItem x (itemInFlight (vcpuAt m i .flight)) || pending x (vcpuAt m i))
-  -- and one of an item with a mark changes, P and the marks apart, what is in flight there and nothing else (13.57)
-  pub returnTouches : (m : Module) (i r : ℕ) (y : Item) (j : ℕ) → hasMark y ≡ true → itemInFlight (vcpuAt m i .flight) ≡ some y
-      → step m (at i nonDelivery) .result ≡ done r
-      → unmarkAll (vcpuAt (next m (at i nonDelivery)) j) ≡ unmarkAll (cond (eqb j i) (withFlight Nothing (vcpuAt m j)) (vcpuAt m j))
+  -- and nothing is in flight there (13.57)
+  pub returnFlight : (m : Module) (i r : ℕ) → step m (at i nonDelivery) .result ≡ done r → vcpuAt (next m (at i nonDelivery)) i .flight ≡ Nothing
   -- of every module value: after an accepted hand-back nothing is pending there (13.58)
   pub handBackEmpties : (m : Module) (i r : ℕ) (p : Bytes) (iF sh : Bool) (x : Item) → InRange x → step m (at i (handBack p iF sh)) .result ≡ done r
       → pending x (vcpuAt (next m (at i (handBack p iF sh))) i) ≡ false
-  -- of every module value: a guest call, an IPI among them, changes the mark of no machine check (13.59)
-  pub callsKeepMachineChecks : (m : Module) (i op c x j : ℕ) → vcpuAt (next m (at i (call op c x))) j .«machine_check» ≡ vcpuAt m j .«machine_check»
   -- nor does it read one: with all of them cleared it has the same result, and it leaves the same module with all of them cleared (13.60)
   pub callsApart : (m : Module) (i op c x : ℕ)
       → (step (withoutMachineChecks m) (at i (call op c x)) .result ≡ step m (at i (call op c x)) .result)
       × (next (withoutMachineChecks m) (at i (call op c x)) ≡ withoutMachineChecks (next m (at i (call op c x))))
-  -- of every module value: an event that is no call leaves the record of every other vCPU as it is (13.61)
-  pub keepsOthers : (m : Module) (e : Event) (j : ℕ) → isCall (e .act) ≡ false → eqb j (e .vcpu) ≡ false → vcpuAt (next m e) j ≡ vcpuAt m j
-  -- of every module value: a hand-back leaves TPR, ICR and what is in flight, on every vCPU (13.62)
-  pub handBackKeeps : (m : Module) (i : ℕ) (p : Bytes) (iF sh : Bool) (j : ℕ)
-      → (vcpuAt (next m (at i (handBack p iF sh))) j .tpr ≡ vcpuAt m j .tpr)
-      × (vcpuAt (next m (at i (handBack p iF sh))) j .icr ≡ vcpuAt m j .icr)
-      × (vcpuAt (next m (at i (handBack p iF sh))) j .flight ≡ vcpuAt m j .flight)
   -- of every module value: after an accepted call nothing is in flight at the caller (13.63)
   pub callsForget : (m : Module) (i op c x r : ℕ) → step m (at i (call op c x)) .result ≡ done r
       → vcpuAt (next m (at i (call op c x))) i .flight ≡ Nothing
-  -- of every module value: after an entry that presented nothing each record is as before, but that nothing is in flight there (13.64)
-  pub idleTouches : (m : Module) (i : ℕ) (iF sh bl : Bool) (a : Answer) (j : ℕ) → presentedIn a ≡ none → step m (at i (entry iF sh bl)) .result ≡ answers a
-      → vcpuAt (next m (at i (entry iF sh bl))) j ≡ cond (eqb j i) (withFlight Nothing (vcpuAt m j)) (vcpuAt m j)
   -- of every set and page: the NMI and the machine check are admitted by an announcement, their own bit and their own member, and by nothing else (13.66)
   pub nmiAdmitted : (l : ℕ) (a : List ℕ) (p : Bytes) → admitted l a p .nmi ≡ (announces l p && bitOf (descriptor l p) 8 && has a 2)
   pub machineCheckAdmitted : (l : ℕ) (a : List ℕ) (p : Bytes) → admitted l a p .machineCheck ≡ (announces l p && bitOf (descriptor l p) 9 && has a 18)
@@ -233,6 +203,3 @@ pub record Demand2 : Type 0 where
   pub listWrites : (m : Module) (i x : ℕ) (cs : List ℕ) (q : Bytes) → refusalOf (step m (at i (allow cs q)) .result) ≡ none
       → (length (step m (at i (allow cs q)) .page) ≡ length q)
       × ((j : ℕ) → getD (step m (at i (allow cs q)) .page) j 0 ≡ cond (ltb j (length cs)) (getD (codesOf m (singles i x cs)) j 0) (getD q j 0))
-  -- of every module value: A and what is in flight apart, call 4 and a list of values change no record (13.74)
-  pub permitTouches : (m : Module) (i c x j : ℕ) → permitsApart (vcpuAt (next m (at i (call 4 c x))) j) ≡ permitsApart (vcpuAt m j)
-  pub listTouches : (m : Module) (i : ℕ) (cs : List ℕ) (q : Bytes) (j : ℕ) → permitsApart (vcpuAt (next m (at i (allow cs q))) j) ≡ permitsApart (vcpuAt m j)

@@ -11,7 +11,7 @@ use Rattle.model.specs.declared.Module.{Module}
 use Rattle.model.specs.State.{isActive, size, vcpuAt, start, withIrr, withFlight}
 use Rattle.model.specs.Codes.{Answer, nothing, answers, refused, presentedIn}
 use Rattle.model.specs.Items.{putIrr}
-use Rattle.model.specs.Events.{entry, at, Event, offerWith, offer, Out, step, next, final, isSome, wouldPresent}
+use Rattle.model.specs.Events.{entry, at, Event, offerWith, offer, step, next, final, isSome, wouldPresent}
 use Rattle.model.specs.Reached.{Summarised}
 use Rattle.vector_set.specs.Bits.{bitAt}
 use Rattle.vector_set.specs.Sets.{Words, has, highest}

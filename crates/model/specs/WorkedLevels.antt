@@ -9,8 +9,8 @@ use lib.ListN.{set}
 use Rattle.model.specs.declared.Phase.the-variants.{Leaving}
 use Rattle.model.specs.declared.Module.{Module}
 use Rattle.model.specs.State.{vcpuAt, start, withVcpu, withAllowed, withIsr, withIsrLevel, withPhase}
-use Rattle.model.specs.Events.{notice, call, entry, nonDelivery, handBack, at, Out, step, next}
-use Rattle.model.specs.Cases.{sameNumbers, gives, counts, isNothing, isPresented, fresh2, having, record0, singleton, withPending, zeros, announcing}
+use Rattle.model.specs.Events.{notice, call, nonDelivery, handBack, at, Out, step, next}
+use Rattle.model.specs.Cases.{sameNumbers, gives, counts, isPresented, fresh2, having, record0, singleton, withPending, zeros, announcing}
 use Rattle.model.specs.Cases.{byte64, onPage, pendingAfter, resultOn, every}
 use Rattle.model.specs.Worked.{eoi, enters}
 use Rattle.vector_set.specs.Sets.{empty, insert}

@@ -116,7 +116,7 @@ fn enter_in(m: &mut Module, vcpu: u32, iflag: bool, shadow: bool, blocked: bool)
     settle_in(m, vcpu, before)
 }
 
-// An entry of the guest: what it is to be presented (section 8; 13.33). Most find nothing: they store nothing, and read no word of P (8.24).
+// An entry of the guest: what it is to be presented (section 8; 13.33). Most find nothing, and return before any store (8.24).
 pub fn entry_in(m: &mut Module, vcpu: u32, iflag: bool, shadow: bool, blocked: bool) -> Presentation
     ensures { λ r. ⌜ enteredOut (record { presentation = r; after = now (m .exit) }) ≡ step (now (m .entry)) (at vcpu (Act.entry iflag shadow blocked)) ⌝ }
 {

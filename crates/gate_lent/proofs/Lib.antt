@@ -1,0 +1,4 @@
+pub mod Names
+pub mod Over
+pub mod Results
+pub mod Thin

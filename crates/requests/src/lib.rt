@@ -9,11 +9,31 @@ use model::MACHINE_CHECK_VECTOR;
 use model::NMI_VECTOR;
 use model::Refusal;
 use model::Request;
+use vector_set::LOWEST;
 
 pub mod kinds;
 
 // The bit of ECX by which call 4 allows the vector, and does not take it out (5.16).
 pub const ALLOW_BIT: u32 = 8;
+
+// The forms of call 4's ECX: the vectors that it may name, and the same with ALLOW_BIT set (5.15 to 5.17).
+const DISALLOW_NMI: u32 = NMI_VECTOR as u32;
+
+const DISALLOW_MACHINE_CHECK: u32 = MACHINE_CHECK_VECTOR as u32;
+
+const DISALLOW_LOWEST: u32 = LOWEST as u32;
+
+const DISALLOW_HIGHEST: u32 = 255;
+
+const ALLOW: u32 = 1 << ALLOW_BIT;
+
+const ALLOW_NMI: u32 = ALLOW + DISALLOW_NMI;
+
+const ALLOW_MACHINE_CHECK: u32 = ALLOW + DISALLOW_MACHINE_CHECK;
+
+const ALLOW_LOWEST: u32 = ALLOW + DISALLOW_LOWEST;
+
+const ALLOW_HIGHEST: u32 = ALLOW + DISALLOW_HIGHEST;
 
 fn bad() -> Request
     ensures { λ r. ⌜ r ≡ Request.Refused Refusal.BadParameter ⌝ }
@@ -96,28 +116,30 @@ fn write_of(r: u32, x: u64) -> Request
     }
 }
 
-// A vector that call 4 may name, and no bit above 8 (5.17).
-pub fn is_nameable(ecx: u32) -> bool
-    ensures { λ r. ⌜ r ≡ nameable ecx ⌝ }
-{
-    let v = ecx % 256;
-    (v == NMI_VECTOR as u32 || v == MACHINE_CHECK_VECTOR as u32 || vector_set::is_vector(v as u64))
-        && ecx < 512
-}
-
-// Call 4 (5.15, 5.16).
+// Call 4 (5.15 to 5.18).
 fn permission_of(ecx: u32) -> Request
     ensures { λ r. ⌜ r ≡ permission ecx ⌝ }
 {
-    if !is_nameable(ecx) {
-        return bad();
+    match ecx {
+        DISALLOW_NMI | DISALLOW_MACHINE_CHECK | DISALLOW_LOWEST..=DISALLOW_HIGHEST => {
+            Request::Local(Local::Disallow((ecx % 256) as u8))
+        }
+        ALLOW_NMI | ALLOW_MACHINE_CHECK | ALLOW_LOWEST..=ALLOW_HIGHEST => {
+            Request::Local(Local::Allow((ecx % 256) as u8))
+        }
+        _ => bad(),
     }
-    let v = (ecx % 256) as u8;
-    if (ecx >> ALLOW_BIT) % 2 == 1 {
-        Request::Local(Local::Allow(v))
-    } else {
-        Request::Local(Local::Disallow(v))
-    }
+}
+
+// Call 4 takes this ECX: it names a vector that may be named, and has no bit above 8 (5.17).
+pub fn is_nameable(ecx: u32) -> bool
+    ensures { λ r. ⌜ r ≡ nameable ecx ⌝ }
+{
+    let request = permission_of(ecx);
+    let Request::Refused(_) = request else {
+        return true;
+    };
+    false
 }
 
 // What a call asks for, or why it is refused before the count is looked at (5.1, 5.2, 11.14).

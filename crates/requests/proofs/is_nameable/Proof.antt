@@ -1,32 +1,52 @@
--- `requests::is_nameable` meets its contract: the vector, then the bits above 8. Assumes nothing.
-use mathlib.Core.Path.{_≡_, _∙_}
-use mathlib.Core.Bool.{_||_}
-use mathlib.Core.Logic.{⊎-elim}
-use Prim.Native.Nat.{_%_}
-use lib.Dec.{eqb}
+-- `requests::is_nameable` meets its contract: what call 4 asks for is a refusal exactly where the ECX is outside the rule. Assumes nothing.
+use mathlib.Core.Path.{_≡_, refl, sym, _∙_, subst}
+use mathlib.Core.Bool.{Bool, true, false}
+use mathlib.Core.List.{[], _∷_}
+use mathlib.Core.Logic.{inl, inr}
+use Prim.Native.Nat.{ℕ}
+use native.Mathlib.Omega.{arith}
+use types.Run.{OneOf}
+use denote.Enum.Declared.{tagOf}
 use borrow.Author.Needs.{needs}
-use borrow.Author.Tests.{eq-eqb, ne-eqb}
-use Rattle.model.specs.Requests.{mayName, nameable}
+use Rattle.vector_set.specs.Bits.{bitAt}
+use Rattle.vector_set.proofs.Laws.{clash}
+use Rattle.model.specs.declared.Refusal.{Refusal}
+use Rattle.model.specs.declared.Request.{Request}
+use Rattle.model.specs.declared.Request.the-variants as request
+use Rattle.model.specs.Requests.{nameable, permission}
+use Rattle.model.proofs.Request as request-row
+use Rattle.model.proofs.Listed.{permission-by}
 use Rattle.requests.proofs.is_nameable.Statement.{statement}
 use Rattle.requests.proofs.is_nameable.Tie as tie
 
--- the NMI's or the machine check's
-stands : (c : tie.Joined1) → c .if1 .if2 ≡ (eqb (c .before .args .ecx % 256) 2 || eqb (c .before .args .ecx % 256) 18)
-stands c =
-    ⊎-elim (λ w. rw (eq-eqb _ 2 (w .0 .taken)) (w .1 ∙ eq-eqb _ 2 (w .0 .taken))) (λ w. rw (ne-eqb _ 2 (w .0 .left)) (w .1)) (c .if1 .came)
+module _ (c : ℕ) where
+  served : (n t : Bool) → OneOf (0 ∷ 1 ∷ []) (tagOf request-row.the-type (permission-by c n t)) → true ≡ n
+  served true t e = refl
+  served false t (inl e) = clash (omega (arith, e))
+  served false t (inr e) = clash (omega (arith, e))
 
-may-name : (c : tie.Joined2) → c .if2 .if3 ≡ mayName (c .before .before .args .ecx % 256)
-may-name c =
-    ⊎-elim (λ w. rw (← stands (c .before), w .0 .taken) (w .1 ∙ w .0 .taken)) (λ w. rw (← stands (c .before), w .0 .left) (w .2 ∙ w .1 .ensures))
-    (c .if2 .came)
+  refused : (n t : Bool) (x : Refusal) → permission-by c n t ≡ request.Refused x → false ≡ n
+  refused true true x e = clash (cc)
+  refused true false x e = clash (cc)
+  refused false t x e = refl
+
+  is-served : (r : Request) → r ≡ permission c → OneOf (0 ∷ 1 ∷ []) (tagOf request-row.the-type r) → true ≡ nameable c
+  unfolding permission
+  is-served r e k = served (nameable c) (bitAt c 8) (subst (λ (q : Request). OneOf (0 ∷ 1 ∷ []) (tagOf request-row.the-type q)) e k)
+
+  is-refused : (r : Request) (x : Refusal) → r ≡ permission c → r ≡ request.Refused x → false ≡ nameable c
+  unfolding permission
+  is-refused r x e k = refused (nameable c) (bitAt c 8) x (sym e ∙ k)
 
 returns : tie.Need-returns
-unfolding nameable
-returns c = rw (← may-name (c .before), c .if3 .taken)
+returns c =
+    let p = c .before .permission-of in
+    is-served (c .before .before .args .ecx) (p .result) (p .ensures) (c .match .keys2)
 
 returns-2 : tie.Need-returns-2
-unfolding nameable
-returns-2 c = rw (← may-name (c .before), c .if3 .left)
+returns-2 c =
+    let p = c .before .before .permission-of in
+    is-refused (c .before .before .before .args .ecx) (p .result) (c .enum-told .given .0 .0) (p .ensures) (c .enum-told .given .1)
 
 pub is-nameable-spec : {M : Type 1} → statement M
-is-nameable-spec = tie.close (tie.spec (λ c. search needs) (λ c. search needs) (λ c. search needs) (λ c κs. search needs) returns returns-2)
+is-nameable-spec = tie.close (tie.spec (λ c κs. search needs) (λ c. search needs) returns returns-2)

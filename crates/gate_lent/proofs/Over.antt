@@ -58,7 +58,8 @@ module _ {M : Type 1} (𝓤 : URA M) (H : Heap 𝓤) (A : Atoms 𝓤) (W : Given
   has-left : (κs : Lfts n) (ss : List (Slot n)) (ks : Kepts ss) (a : Denots (typesAt ss κs)) (ws : Fins κs ss ks a) (vss : Valss (typesAt ss κs))
       → ent 𝓤 (sem 𝓤 H A (lastsOf κs ss ks a ws)) (sem 𝓤 H A (hasOf κs ss ks (lefts ss ks) a ws vss))
   has-left κs [] ks a ws vss = id⊢ 𝓤 (emp 𝓤)
-  has-left κs (s ∷ ss) ks a ws vss = mono∗ 𝓤 (id⊢ 𝓤 (sem 𝓤 H A (left (s .row κs .exit (ks .0)) (a .0) (ws .0)))) (has-left κs ss (ks .1) (a .1) (ws .1) (vss .1))
+  has-left κs (s ∷ ss) ks a ws vss =
+      mono∗ 𝓤 (id⊢ 𝓤 (sem 𝓤 H A (left (s .row κs .exit (ks .0)) (a .0) (ws .0)))) (has-left κs ss (ks .1) (a .1) (ws .1) (vss .1))
 
   go-left : (ss : List (Slot n)) (ks : Kepts ss) → AllGo 𝓤 H A W n ss ks (lefts ss ks)
   go-left [] ks = tt
@@ -82,7 +83,8 @@ module _ (T : RattleType) (n : ℕ) (ss : List (Slot (suc n))) (ks : Kepts ss) (
   over-says Says 𝓤 κs a = record { ghost = Unit {0}; requires = λ g. emp 𝓤; ensures = λ g r e. fact 𝓤 (Says κs (now (a .0)) (a .1) r (now (e .0)) (e .1)) }
 
   -- ---- the reference and what is beside it, and where a walk ends
-  module _ {M : Type 1} (𝓤 : URA M) (H : Heap 𝓤) (A : Atoms 𝓤) (κs : Lfts (suc n)) (qs : Shares (suc n)) (b o : ℕ) (γ : GName) (a : Denots (typesAt ss κs)) where
+  module _ {M : Type 1} (𝓤 : URA M) (H : Heap 𝓤) (A : Atoms 𝓤) (κs : Lfts (suc n)) (qs : Shares (suc n)) (b o : ℕ) (γ : GName)
+      (a : Denots (typesAt ss κs)) where
     abbrev pub held : T .Denot → Valss (typesAt ss κs) → List (Item 𝓤)
     held h vss =
         ‵ (fobs γ (T .coded .code h)) ∷ ‵ (fbor (κs .0) (Body (mem T) b o γ)) ∷ ‵ (flft (κs .0) (qs .0)) ∷ ‵ (owns (typesAt ss κs) a vss)
@@ -119,7 +121,8 @@ module _ (T : RattleType) (n : ℕ) (ss : List (Slot (suc n))) (ks : Kepts ss) (
         ≡ ‵ (fat fullShare (spotOf 𝓤 H (env ls bs) 0 .0) (spotOf 𝓤 H (env ls bs) 0 .1) 0 w)
         → post 𝓤 H P return-out ≡ atReturn 𝓤 H (env ls bs) (After 𝓤 H A κs qs b o γ a Q) return-out
         → Seq K W (‵ (partAt T fullShare h b o) ∷ ‵ (fobor (κs .0) (qs .0) (Body (mem T) b o γ)) ∷ ‵ (fobs γ u) ∷ ‵ (fauth γ v)
-        ∷ ‵ (lastsOf κs ss ks a ws) ∷ raw (toks 𝓤 A n (κs .1) (qs .1)) ∷ (cells ls bs (full w ∷ cs) ++ (raw (deaths H ls bs) ∷ []))) (runs C Λ (env ls bs) return P)
+        ∷ ‵ (lastsOf κs ss ks a ws) ∷ raw (toks 𝓤 A n (κs .1) (qs .1)) ∷ (cells ls bs (full w ∷ cs) ++ (raw (deaths H ls bs) ∷ [])))
+        (runs C Λ (env ls bs) return P)
     leaves t κs qs b o a mk Q r h ws w is said ls bs cs e out =
         close-ref t tt (mem T) h {b = b} {o = o} $ use1 W (‵ (fres γ (T .coded .code h))) (W .names .obs-res γ (T .coded .code h)) $
         move t (1 ∷ []) $ drop t $
@@ -128,8 +131,8 @@ module _ (T : RattleType) (n : ℕ) (ss : List (Slot (suc n))) (ks : Kepts ss) (
 
   -- ---- a walk is a proof
   module _ (Says : Saying) where
-    module _ {M : Type 1} (𝓤 : URA M) (H : Heap 𝓤) (A : Atoms 𝓤) (W : Given 𝓤 H A) (κs : Lfts (suc n)) (qs : Shares (suc n)) (b o : ℕ) (γ : GName) (h : T .Denot)
-        (a : Denots (typesAt ss κs)) (vss : Valss (typesAt ss κs)) where
+    module _ {M : Type 1} (𝓤 : URA M) (H : Heap 𝓤) (A : Atoms 𝓤) (W : Given 𝓤 H A) (κs : Lfts (suc n)) (qs : Shares (suc n)) (b o : ℕ) (γ : GName)
+        (h : T .Denot) (a : Denots (typesAt ss κs)) (vss : Valss (typesAt ss κs)) where
       abbrev x : RefT (T .Denot)
       x = record { ptr = (b, o); name = γ; now = h }
 
@@ -138,7 +141,8 @@ module _ (T : RattleType) (n : ℕ) (ss : List (Slot (suc n))) (ks : Kepts ss) (
 
       exits : (v : Val) → ent 𝓤 (After 𝓤 H A κs qs b o γ a (Says κs h a) v) (walkOf 𝓤 H A Over stayed (over-says Says 𝓤) .post bound v)
       exits v =
-          qed W (some (λ (r : res .row κs .Denot). some (λ (h′ : T .Denot). some (λ (ws : Fins κs ss ks a). result 𝓤 H A κs qs b o γ a (Says κs h a) v r h′ ws)))
+          qed W (some (λ (r : res .row κs .Denot). some (λ (h′ : T .Denot). some (λ (ws : Fins κs ss ks a).
+          result 𝓤 H A κs qs b o γ a (Says κs h a) v r h′ ws)))
           ∷ []) ∵ pick ! (λ r. pick ! (λ h′. pick ! (λ ws. split ! $ move ! (1 ∷ []) $ split ! $ move ! (1 ∷ []) $
           heard ! (Says κs h a r h′ (outs κs ss ks a ws)) (λ said.
           suffices ! _ (ends-at 𝓤 H A Over stayed (over-says Says 𝓤) W bound v r (h′, ws) (tt, fits-left κs ss ks a ws)) $

@@ -29,8 +29,8 @@ use ghost.Atoms.{Atoms, sem}
 use contract.Monad.{fact}
 use contract.Lifetimes.{Lfts, Shares, toks}
 use sound.WpLaws.{FmC}
-use types.Kit.{Given, Item, ‵, raw, _⊛_, some, later, mean, nth, Seq, Step, step, Post, post, runs, lands, _$_, _∵_, !, qed, move, drop, use1, split, join, pick, fsplit, fjoin}
-use types.Kit.{assume, frame, await, done}
+use types.Kit.{Given, Item, ‵, raw, _⊛_, some, later, mean, nth, Seq, Step, step, Post, post, runs, lands, _$_, _∵_, !, qed, move, drop}
+use types.Kit.{use1, split, join, pick, fsplit, fjoin, assume, frame, await, done}
 use types.Run.{Reads, Writes, Opds, Rv, stop, hop, from, load, of-opd, assigns, land}
 use types.SemTy.{Body}
 use denote.RattleType.{RattleType, Denots, Valss, flat, owns}
@@ -78,8 +78,8 @@ module _ (n : ℕ) (ts : List (Slot n)) (js : Kepts ts) (S : RattleType) where
       goes : Given 𝓤 H A → ent 𝓤 (mean 𝓤 H A passing) (StepContract 𝓤 H A .pre bound)
       goes W = qed W (passing ∷ []) ∵ frame ! $ nothing ! $ done !
 
-    module _ {M : Type 1} {𝓤 : URA M} {H : Heap 𝓤} {A : Atoms 𝓤} {K : Type 0} {W : Given 𝓤 H A} {Γ : List (Item 𝓤)} {E : Env 𝓤 H} {C : Calls 𝓤 H} {Λ : Loops 𝓤 H}
-        {P : Post 𝓤 H} where
+    module _ {M : Type 1} {𝓤 : URA M} {H : Heap 𝓤} {A : Atoms 𝓤} {K : Type 0} {W : Given 𝓤 H A} {Γ : List (Item 𝓤)} {E : Env 𝓤 H} {C : Calls 𝓤 H}
+        {Λ : Loops 𝓤 H} {P : Post 𝓤 H} where
       pub asks-step : K → FmC 𝓤 H (W .laws) C → {f : Name} {xs : List Operand} {d : Place} {next : Code} → Triple 𝓤 (C f) (StepContract 𝓤 H A)
           → (κs : Lfts n) (qs : Shares n) (a : Denots (typesAt ts κs)) (vss : Valss (typesAt ts κs))
           → (val : S .Denot → Val) → Tells S (Is S) (λ r. val r ∷ [])
@@ -92,8 +92,8 @@ module _ (n : ℕ) (ts : List (Slot n)) (js : Kepts ts) (S : RattleType) where
           use1 W (‵ (owns (typesAt ts κs) a vss)) gives $ move t (1 ∷ 0 ∷ []) $ join t $
           calls-from t fm (passing 𝓤 H A κs qs a vss) (flat (typesAt ts κs) vss) (StepContract 𝓤 H A .post (bound 𝓤 H A κs qs a vss))
           (via 𝓤 (StepContract 𝓤 H A .pre (bound 𝓤 H A κs qs a vss)) (goes 𝓤 H A κs qs a vss W) (known (bound 𝓤 H A κs qs a vss))) (os _) (λ w.
-          use1 W (later (some (λ (r : S .Denot). (raw (toks 𝓤 A n κs qs) ⊛ ‵ (S .own r (w ∷ []))) ⊛ raw (ensured 𝓤 H A Steps (steps-say 𝓤) κs a tt r)))) (id⊢ 𝓤 _) $
-          await t tt $ pick t (λ r. split t $ move t (1 ∷ []) $
+          use1 W (later (some (λ (r : S .Denot). (raw (toks 𝓤 A n κs qs) ⊛ ‵ (S .own r (w ∷ []))) ⊛ raw (ensured 𝓤 H A Steps (steps-say 𝓤) κs a tt r))))
+          (id⊢ 𝓤 _) $ await t tt $ pick t (λ r. split t $ move t (1 ∷ []) $
           use1 W (some (λ (ws : Fins κs ts js a). ‵ (lasts Steps κs a ws) ⊛ raw (fact 𝓤 (φ κs a r (outs κs ts js a ws))))) (id⊢ 𝓤 _) $
           pick t (λ ws. split t $ move t (1 ∷ []) $ heard t (φ κs a r (outs κs ts js a ws)) (λ said.
           -- [what is said of the arguments; the tokens and the result; ..]
@@ -171,8 +171,8 @@ holding ps κs vss b o more = full (vptr b o) ∷ (map full (flat (typesAt ps κ
 
 -- ---- the walk from the call to the end
 module _ (n : ℕ) (ps : List (Slot (suc n))) (ks : Kepts ps) (R : RattleType) where
-  module _ {M : Type 1} {𝓤 : URA M} {H : Heap 𝓤} {A : Atoms 𝓤} {K : Type 0} {W : Given 𝓤 H A} {C : Calls 𝓤 H} {Λ : Loops 𝓤 H} {P : Post 𝓤 H} {γ : GName} {u v : Gv}
-      {τ ρ σ : Ty} {br bm bk : ℕ} where
+  module _ {M : Type 1} {𝓤 : URA M} {H : Heap 𝓤} {A : Atoms 𝓤} {K : Type 0} {W : Given 𝓤 H A} {C : Calls 𝓤 H} {Λ : Loops 𝓤 H} {P : Post 𝓤 H} {γ : GName}
+      {u v : Gv} {τ ρ σ : Ty} {br bm bk : ℕ} where
     module _ (ts : List (Slot n)) (js : Kepts ts) (S : RattleType) (φ : Telling n ts js S) where
       pub steps-whole : K → FmC 𝓤 H (W .laws) C → {f : Name} {xs : List Operand} {j : ℕ} {rv ra : RValue} → Triple 𝓤 (C f) (StepContract n ts js S φ 𝓤 H A)
           → (h : Module) (b o : ℕ) (κs : Lfts (suc n)) (qs : Shares (suc n)) (a : Denots (typesAt ps κs)) (vss : Valss (typesAt ps κs))
@@ -199,7 +199,8 @@ module _ (n : ℕ) (ps : List (Slot (suc n))) (ks : Kepts ps) (R : RattleType) w
           → Seq K W (‵ (partAt T.the-row fullShare h b o) ∷ ‵ (fobor (κs .0) (qs .0) (Body (mem T.the-row) b o γ)) ∷ ‵ (fobs γ u) ∷ ‵ (fauth γ v)
           ∷ ‵ (owns (typesAt ps κs) a vss) ∷ raw (toks 𝓤 A n (κs .1) (qs .1)) ∷ ‵ (froom ρ br zero) ∷ ‵ (fat fullShare τ bm zero (vptr b o)) ∷ Γ)
           (runs C Λ (env ls bs) (seq (call f xs (place j [])) (seq (assign (place 1 (deref T′.mir ∷ [])) rv) (seq (assign (place 0 []) ra) return))) P)
-      steps-whole t fm {j = j} {rv} {ra} known h b o κs qs a vss a′ vss′ gives fin lasting y mk ls bs cs {Γ} {Γ′} r-at m-at s-at os lands-it reads answers there reads-there Q so out =
+      steps-whole t fm {j = j} {rv} {ra} known h b o κs qs a vss a′ vss′ gives fin lasting y mk ls bs cs {Γ} {Γ′} r-at m-at s-at os lands-it reads answers
+          there reads-there Q so out =
           let B : Item 𝓤 = ‵ (fobor (κs .0) (qs .0) (Body (mem T.the-row) b o γ)) in
           let ptr : Item 𝓤 = ‵ (fat fullShare τ bm zero (vptr b o)) in
           move t (4 ∷ 5 ∷ []) $

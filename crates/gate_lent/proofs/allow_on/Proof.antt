@@ -30,7 +30,8 @@ ks = (yes, (yes, (yes, tt)))
 
 abbrev ts : List (Slot 2)
 ts =
-    plain (λ _. T.the-row) ∷ plain (λ _. u32) ∷ SliceRefOf (0 ∷ []) tt (plain (λ _. u32)) (λ _. tt) ∷ SliceRefMutOf (1 ∷ []) tt (plain (λ _. u32)) (λ _. tt) ∷ []
+    plain (λ _. T.the-row) ∷ plain (λ _. u32) ∷ SliceRefOf (0 ∷ []) tt (plain (λ _. u32)) (λ _. tt)
+    ∷ SliceRefMutOf (1 ∷ []) tt (plain (λ _. u32)) (λ _. tt) ∷ []
 
 abbrev js : Kepts ts
 js = (yes, (yes, (yes, (yes, tt))))
@@ -71,7 +72,8 @@ module _ {M : Type 1} (𝓤 : URA M) (H : Heap 𝓤) (A : Atoms 𝓤) (W : Given
       (with-module 𝓤 H A W h is-h (owns (typesAt ps κs) a (vals κs a))) (λ ws. ws .1)
       (λ ws. but-module 𝓤 H A W (lastsOf κs ps ks a (ws .1)))
       (by-step 𝓤 H A W) (makesO 𝓤 H A) (code.function .locals) bs
-      (λ d. holding ps κs (vals κs a) b o (full (by-step 𝓤 H A W .val d) ∷ full (machM h) ∷ full (vptr (a .1 .1 .0 .ptr .0) (a .1 .1 .0 .ptr .1)) ∷ full (only (vals κs a .1 .1 .0)) ∷ [])) refl refl refl
+      (λ d. holding ps κs (vals κs a) b o (full (by-step 𝓤 H A W .val d) ∷ full (machM h)
+      ∷ full (vptr (a .1 .1 .0 .ptr .0) (a .1 .1 .0 .ptr .1)) ∷ full (only (vals κs a .1 .1 .0)) ∷ [])) refl refl refl
       (λ _ _ _ _ _. and-then ! (var ! 11 refl) (and-then ! (var ! 7 refl) (and-then ! (var ! 8 refl) (and-then ! (var ! 13 refl) (no-more !)))))
       (λ d is _ _ _ _ _ _ _ _. init ! 11 refl (by-step 𝓤 H A W .typed d is))
       (λ d _ _ _ _ _ _ _ _. of-opd ! (load ! (from ! (fld ! refl (stop !))) (look-in ! 11 (sub ! 1 refl (whole !)))))

@@ -65,7 +65,8 @@ module _ {M : Type 1} (𝓤 : URA M) (H : Heap 𝓤) (A : Atoms 𝓤) (W : Given
       (λ ws. but-module 𝓤 H A W (lastsOf κs ps ks a (ws .1)))
       (by-entry 𝓤 H A W) (makesP 𝓤 H A) (code.function .locals) bs
       (λ d. holding ps κs (vals κs a) b o (full (by-entry 𝓤 H A W .val d) ∷ full (machM h) ∷ [])) refl refl refl
-      (λ _ _ _ _ _. and-then ! (var ! 12 refl) (and-then ! (var ! 7 refl) (and-then ! (var ! 8 refl) (and-then ! (var ! 9 refl) (and-then ! (var ! 10 refl) (no-more !))))))
+      (λ _ _ _ _ _. and-then ! (var ! 12 refl) (and-then ! (var ! 7 refl) (and-then ! (var ! 8 refl) (and-then ! (var ! 9 refl)
+      (and-then ! (var ! 10 refl) (no-more !))))))
       (λ d is _ _ _ _ _ _ _ _. init ! 12 refl (by-entry 𝓤 H A W .typed d is))
       (λ d _ _ _ _ _ _ _ _. of-opd ! (load ! (from ! (fld ! refl (stop !))) (look-in ! 12 (sub ! 1 refl (whole !)))))
       (λ d _ _ _ _ _ _ _ _. of-opd ! (load ! (from ! (fld ! refl (stop !))) (look-in ! 12 (sub ! 0 refl (whole !)))))

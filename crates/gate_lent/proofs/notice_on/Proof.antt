@@ -68,7 +68,8 @@ module _ {M : Type 1} (𝓤 : URA M) (H : Heap 𝓤) (A : Atoms 𝓤) (W : Given
       (with-module 𝓤 H A W h is-h (owns (typesAt ps κs) a (vals κs a))) (λ ws. ws .1)
       (λ ws. but-module 𝓤 H A W (lastsOf κs ps ks a (ws .1)))
       (by-notice 𝓤 H A W) (makesA 𝓤 H A) (code.function .locals) bs
-      (λ d. holding ps κs (vals κs a) b o (full (by-notice 𝓤 H A W .val d) ∷ full (machM h) ∷ full (vptr (a .1 .0 .ptr .0) (a .1 .0 .ptr .1)) ∷ full (only (vals κs a .1 .0)) ∷ [])) refl refl refl
+      (λ d. holding ps κs (vals κs a) b o (full (by-notice 𝓤 H A W .val d) ∷ full (machM h)
+      ∷ full (vptr (a .1 .0 .ptr .0) (a .1 .0 .ptr .1)) ∷ full (only (vals κs a .1 .0)) ∷ [])) refl refl refl
       (λ _ _ _ _ _. and-then ! (var ! 10 refl) (and-then ! (var ! 7 refl) (and-then ! (var ! 12 refl) (no-more !))))
       (λ d is _ _ _ _ _ _ _ _. init ! 10 refl (by-notice 𝓤 H A W .typed d is))
       (λ d _ _ _ _ _ _ _ _. of-opd ! (load ! (from ! (fld ! refl (stop !))) (look-in ! 10 (sub ! 1 refl (whole !)))))

@@ -2,8 +2,8 @@
 -- Assumes nothing.
 use Rattle.gate_mut.proofs.Walk.{_≡_, refl, Bool, [], _∷_, ℕ, _<_, _^_, URA, w32, vint, vbool, vptr, ent, Lft, Share, Heap, WpFn, Tables, Atoms}
 use Rattle.gate_mut.proofs.Walk.{givenOf, tables, tablesOf, Given, ⋆, _$_, _∵_, !, qed, look, init, stop, from, and-then, no-more, land}
-use Rattle.gate_mut.proofs.Walk.{enter, params1, pass1, pass0, fmOf, uint-vals, uint-tells, uint-makes, bool-tells, bool-makes, u32, bool, plain, yes, Contract, Triple}
-use Rattle.gate_mut.proofs.Walk.{tripleOf, entered, cited}
+use Rattle.gate_mut.proofs.Walk.{enter, params1, pass1, pass0, fmOf, uint-vals, uint-tells, uint-makes, bool-tells, bool-makes, u32, bool, plain, yes}
+use Rattle.gate_mut.proofs.Walk.{Contract, Triple, tripleOf, entered, cited}
 use Rattle.model.specs.Events.{wouldPresent}
 use Rattle.model.specs.declared.Module.{Module}
 use Rattle.model.proofs.Module as T

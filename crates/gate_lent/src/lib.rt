@@ -1,4 +1,5 @@
-// Each event on a module lent by `&mut`, as a thin function over the event by value: the module is passed, and the one that comes back is stored.
+// Each event on a module lent by `&mut`: a thin function that passes the module to the event by value and stores the one that comes back.
+// The question is lent it by `&`. The functions of `gate_mut_*` have the same contracts and work in place: they are for speed (docs/DECISIONS.md, Forms).
 ghost use mathlib.Core.Path.{_≡_};
 ghost use mathlib.Core.List.{[]};
 ghost use Rattle.model.specs.Events.{Act, at, step, doStart, outOf, enteredOut, noticedOut, listedOut, wouldPresent};
@@ -15,7 +16,7 @@ use model::Module;
 use model::Outcome;
 use model::Presentation;
 
-// An entry of the guest (section 8).
+// An entry of the guest (section 8; 13.33).
 pub fn entry_on(m: &mut Module, vcpu: u32, iflag: bool, shadow: bool, blocked: bool) -> Presentation
     ensures { λ r. ⌜ enteredOut (record { presentation = r; after = now (m .exit) }) ≡ step (now (m .entry)) (at vcpu (Act.entry iflag shadow blocked)) ⌝ }
 {
@@ -24,14 +25,14 @@ pub fn entry_on(m: &mut Module, vcpu: u32, iflag: bool, shadow: bool, blocked: b
     entered.presentation
 }
 
-// Whether an entry with IF and without shadow and NMI-blocked would present anything (8.21 to 8.23).
+// Whether an entry with IF and without shadow and NMI-blocked would present anything (8.21 to 8.23; 13.33).
 pub fn would_present_on(m: &Module, vcpu: u32) -> bool
     ensures { λ r. ⌜ r ≡ wouldPresent (now (m .entry)) vcpu ⌝ }
 {
     would_present(*m, vcpu)
 }
 
-// What the latest entry presented was not delivered (section 9).
+// What the latest entry presented was not delivered (section 9; 13.33).
 pub fn non_delivery_on(m: &mut Module, vcpu: u32) -> Outcome
     ensures { λ r. ⌜ outOf (record { outcome = r; after = now (m .exit) }) [] ≡ step (now (m .entry)) (at vcpu Act.nonDelivery) ⌝ }
 {
@@ -40,7 +41,7 @@ pub fn non_delivery_on(m: &mut Module, vcpu: u32) -> Outcome
     stepped.outcome
 }
 
-// A guest call (sections 5 to 7).
+// A guest call (sections 5 to 7; 13.33).
 pub fn call_on(m: &mut Module, vcpu: u32, number: u32, ecx: u32, rdx: u64) -> Outcome
     ensures { λ r. ⌜ outOf (record { outcome = r; after = now (m .exit) }) [] ≡ step (now (m .entry)) (at vcpu (Act.call number ecx rdx)) ⌝ }
 {
@@ -49,7 +50,7 @@ pub fn call_on(m: &mut Module, vcpu: u32, number: u32, ecx: u32, rdx: u64) -> Ou
     stepped.outcome
 }
 
-// A host notice (section 4). The page after it has what was taken cleared.
+// A host notice (section 4; 13.33). The page after it has what was taken cleared.
 pub fn notice_on(m: &mut Module, vcpu: u32, page: &mut [u8]) -> Admission
     ensures { λ r. ⌜ noticedOut (record { admission = r; after = now (m .exit) })
         (now (page .exit)) ≡ step (now (m .entry)) (at vcpu (Act.notice (now (page .entry)))) ⌝ }
@@ -59,7 +60,7 @@ pub fn notice_on(m: &mut Module, vcpu: u32, page: &mut [u8]) -> Admission
     noticed.admission
 }
 
-// A hand-back: what the vCPU has pending and in service goes to the page (section 10).
+// A hand-back: what the vCPU has pending and in service goes to the page (section 10; 13.33).
 pub fn hand_back_on(
     m: &mut Module,
     vcpu: u32,
@@ -75,7 +76,7 @@ pub fn hand_back_on(
     stepped.outcome
 }
 
-// The values of a list in order, and the code of each in the second list (5.26 to 5.31).
+// The values of a list in order, and the code of each in the second list (5.26 to 5.31; 13.33).
 pub fn allow_on(m: &mut Module, vcpu: u32, values: &[u32], codes: &mut [u32]) -> Outcome
     ensures { λ r. ⌜ listedOut (record { outcome = r; after = now (m .exit) }) (now (values .entry))
         (now (codes .exit)) ≡ step (now (m .entry)) (at vcpu (Act.allow (now (values .entry)) (now (codes .entry)))) ⌝ }

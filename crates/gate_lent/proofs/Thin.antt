@@ -2,7 +2,7 @@
 -- It says nothing of any function.
 --     Steps, StepContract      the signature `fn(..) -> S` with n lifetimes, and its contract: `ensures` is a fact of the arguments, the result and the
 --                              arguments as they are seen at exit
---     asks-step                a call of one. What the arguments own is ONE entry of the context, and what is said of them at exit is one
+--     asks-step                a call of one. What the arguments own is one entry of the context, and what is said of them at exit is one
 --     module-of, puts-module   `*m` is read; it is written
 --     module-in                `*m` is read behind a `&`, from a share of the module
 --     Halves                   what a walk needs of the struct that the step gives: its machine value, the module and the answer in it

@@ -164,7 +164,7 @@ touched m i x j l =
     (on-put m i (withIcr x (forget (vcpuAt m i))) j l (λ _ b u v. unmarkAll v ≡ unmarkAll (cond b (withIcr x (forget u)) u)) refl refl)
 
 -- a part of the caller's record after it that is not what is pending
-at-caller : {A : Type 0} (f : Vcpu → A) (m : Module) (i x : ℕ) → i < length (m .vcpus) → ((v : Vcpu) → f (unmarkAll v) ≡ f v)
+pub at-caller : {A : Type 0} (f : Vcpu → A) (m : Module) (i x : ℕ) → i < length (m .vcpus) → ((v : Vcpu) → f (unmarkAll v) ≡ f v)
     → f (vcpuAt (writtenAfter m i x) i) ≡ f (withIcr x (forget (vcpuAt m i)))
 at-caller f m i x l h =
     let t = rw (eq-eqb i i refl) at (touched m i x i l) in

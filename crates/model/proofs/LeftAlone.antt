@@ -1,18 +1,21 @@
 -- Why an event changes nothing that its row of the table does not name.
 -- Assumes nothing.
 use mathlib.Core.Path.{_≡_, refl, _∙_}
-use mathlib.Core.Bool.{false}
-use mathlib.Core.List.{[]}
+use mathlib.Core.Bool.{Bool, false}
+use mathlib.Core.List.{List, [], _∷_}
 use Prim.Native.Nat.{ℕ, _<_}
 use lib.Dec.{eqb}
 use lib.ListN.{length}
+use Rattle.model.specs.declared.Phase.{Phase}
+use Rattle.model.specs.declared.InFlight.{InFlight}
 use Rattle.model.specs.declared.Vcpu.{Vcpu}
 use Rattle.model.specs.declared.Module.{Module}
-use Rattle.model.specs.State.{size, vcpuAt, withVcpu, withRegistrations}
+use Rattle.model.specs.State.{vcpu, bare, size, vcpuAt, withVcpu, withRegistrations}
 use Rattle.model.specs.Codes.{presentedBy}
 use Rattle.model.specs.Ipi.{icrItem, icrTarget, sent}
 use Rattle.model.specs.Events.{Event, Reply, gives, sends, Effect, effectOf, store, deliver, Out, concluded, next}
-use Rattle.model.specs.Touches.{Field, Same, setIn, listed, Touched, icrTouches, actTouches, touches, LeavesAlone}
+use Rattle.model.specs.Touches.{Field, allowed, irr, isr, irrLevel, isrLevel, nmi, machineCheck, tpr, icr, phase, flight, summary, Same, setIn, listed}
+use Rattle.model.specs.Touches.{Touched, icrTouches, registrationTouches, writeTouches, callTouches, actTouches, touches, rows, LeavesAlone}
 use Rattle.vector_set.specs.Sets.{has}
 use Rattle.vector_set.proofs.Laws.{clash}
 use Rattle.model.proofs.Stored.{on-put, stored-at, vcpuAt-count, vcpuAt-sent, by-reach, by-verdict, known-of}
@@ -106,9 +109,27 @@ kept-count m e =
     by-verdict m e (λ o. row m e o .count ≡ false → o .after .registrations ≡ m .registrations) (λ c p n. refl)
     (λ p n. count-delivered (effectOf m e .reply) (e .vcpu) (store (effectOf m e) (e .vcpu) m) ∙ covers m e .count n)
 
+-- ---- the table
+tabled : rows
+    ≡ (0x86A ∷ 0x400 ∷ 0x600 ∷ 0x100_0600 ∷ 0x100_0400 ∷ 0 ∷ 0x400 ∷ 0x414 ∷ 0xC02 ∷ 0x480 ∷ 0x80_2D02 ∷ 0x2_0520 ∷ 0 ∷ 0x401 ∷ 0 ∷ 0x400 ∷ 0x420
+    ∷ 0x440 ∷ 0xC1E ∷ 0x420 ∷ 0x440 ∷ 0xC1E ∷ 0xA7F ∷ 0x401 ∷ [])
+unfolding rows actTouches callTouches registrationTouches writeTouches icrItem bare
+tabled = refl
+
+-- a record is its fields
+by-fields : {a b c d e a′ b′ c′ d′ e′ : List ℕ} {n k n′ k′ : Bool} {t r s t′ r′ s′ : ℕ} {p p′ : Phase} {f f′ : InFlight} → a ≡ a′ → b ≡ b′ → c ≡ c′ → d ≡ d′
+    → e ≡ e′ → n ≡ n′ → k ≡ k′ → t ≡ t′ → r ≡ r′ → p ≡ p′ → f ≡ f′ → s ≡ s′ → vcpu a b c d e n k t r p f s ≡ vcpu a′ b′ c′ d′ e′ n′ k′ t′ r′ p′ f′ s′
+by-fields q1 q2 q3 q4 q5 q6 q7 q8 q9 q10 q11 q12 = rw (q1, q2, q3, q4, q5, q6, q7, q8, q9, q10, q11, q12)
+
+whole-record : (u v : Vcpu) → ((f : Field) → Same f u v) → u ≡ v
+whole-record u v h =
+    by-fields (h allowed) (h irr) (h isr) (h irrLevel) (h isrLevel) (h nmi) (h machineCheck) (h tpr) (h icr) (h phase) (h flight) (h summary)
+
 pub leaves-alone : LeavesAlone
 leaves-alone =
     record {
+      table = tabled;
+      whole = whole-record;
       ownField = own-field;
       otherField = other-field;
       vector = kept-vector;

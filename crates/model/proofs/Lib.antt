@@ -25,6 +25,7 @@ pub mod ReadBack
 pub mod NumberCauses
 pub mod Demand1
 pub mod Demand2
+pub mod Moved
 pub mod Continued
 pub mod Computed
 pub mod Asked

@@ -31,7 +31,7 @@ use Rattle.model.specs.Requests.{bad, registration, readBy, writeBy, wri
 use Rattle.model.specs.Events.{Act, notice, call, entry, nonDelivery, handBack, allow, Bytes, noticed, offer, gains, present, entered, giveBack, undelivered}
 use Rattle.model.specs.Events.{emptied, Reply, gives, sends, Effect, callEffect, listAfter, singleAfter, effect, resultFor}
 use Rattle.model.specs.Touches.{Field, allowed, irr, isr, irrLevel, isrLevel, nmi, machineCheck, tpr, icr, phase, flight, summary, Same, setIn, listed}
-use Rattle.model.specs.Touches.{Touched, only, noVector, isThat, pendingFields, movedFields, icrTouches, registrationTouches, writeTouches, callTouches}
+use Rattle.model.specs.Touches.{Touched, only, noVector, untouched, isThat, pendingFields, movedFields, icrTouches, registrationTouches, writeTouches, callTouches}
 use Rattle.model.specs.Touches.{names, actTouches}
 use Rattle.vector_set.specs.Bits.{bitAt}
 use Rattle.vector_set.specs.Sets.{has, insert, remove, isVector, highest}
@@ -304,7 +304,7 @@ within-registration c i k v = pick (eqb c 0) (eqb c 1) (eqb c 2)
   where
     pick : (a b d : Bool)
         → Within i k v
-        (cond a (localTouches v local.Leave) (cond b (localTouches v local.Release) (localTouches v local.Register)))
+        (cond a (localTouches v local.Leave) (cond b (localTouches v local.Release) (cond d (localTouches v local.Register) untouched)))
         (cond a (request.Local local.Leave) (cond b (request.Local local.Release) (cond d (request.Local local.Register) bad)))
     pick true b d = within-local local.Leave i k v
     pick false true d = within-local local.Release i k v
@@ -317,7 +317,7 @@ within-value r x i k v = pick (eqb r 0x80B) (eqb r 0x83F) (eqb r 0x808) (eqb r 0
   where
     pick : (a b c d p q s t : Bool)
         → Within i k v
-        (cond a (localTouches v local.Eoi) (cond b (localTouches v (local.SelfIpi x)) (cond c (localTouches v (local.SetTpr x)) (icrTouches x))))
+        (cond a (localTouches v local.Eoi) (cond b (localTouches v (local.SelfIpi x)) (cond c (localTouches v (local.SetTpr x)) (cond d (icrTouches x) untouched))))
         (cond a (cond p (request.Local local.Eoi) bad)
         (cond b (cond q (request.Local (local.SelfIpi x)) bad)
         (cond c (cond s (request.Local (local.SetTpr x)) bad) (cond d (cond t (request.Icr x) bad) (request.Refused BadRegister)))))
@@ -361,7 +361,8 @@ within-call op c x i k v = pick (eqb op 0) refl
     rows : Bool → Bool → Bool → Touched
     rows a b d =
         cond a (registrationTouches c)
-        (cond b (writeTouches v c x) (cond d (only (flight ∷ allowed ∷ []) (λ y. eqb y (c % 256))) (only (flight ∷ []) noVector)))
+        (cond b (writeTouches v c x) (cond d (only (flight ∷ allowed ∷ []) (λ y. eqb y (c % 256)))
+        (cond (eqb op 0 || eqb op 2) (only (flight ∷ []) noVector) untouched)))
 
     late : (a b : Bool) → Within i k v (rows false a b) (cond a (writeBy (kindOf c) c x) (cond b (permission c) (request.Refused UnknownCall)))
     late true b = within-write (kindOf c) c x i k v

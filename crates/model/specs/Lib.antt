@@ -9,6 +9,7 @@ pub mod Events
 pub mod Causes
 pub mod Reached
 pub mod Touches
+pub mod Moves
 pub mod Demand1
 pub mod Demand2
 pub mod Cases

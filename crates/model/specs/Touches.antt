@@ -4,18 +4,20 @@ use mathlib.Core.Path.{_≡_}
 use mathlib.Core.Bool.{Bool, true, false, cond, _||_}
 use mathlib.Core.List.{List, [], _∷_}
 use mathlib.Core.Option.{Option, none, some}
-use Prim.Native.Nat.{ℕ, _%_, _<_}
+use Prim.Native.Nat.{ℕ, _+_, _*_, _%_, _^_, _<_}
 use lib.Dec.{eqb}
 use Rattle.model.specs.declared.Item.{Item}
 use Rattle.model.specs.declared.Item.the-variants.{Nmi, MachineCheck, Vector}
 use Rattle.model.specs.declared.Vcpu.{Vcpu}
 use Rattle.model.specs.declared.Module.{Module}
-use Rattle.model.specs.State.{vcpuAt}
+use Rattle.model.specs.declared.InFlight.the-variants as inFlight
+use Rattle.model.specs.State.{absent, vcpuAt, withFlight}
 use Rattle.model.specs.Codes.{presentedBy}
 use Rattle.model.specs.Items.{isItem, itemInFlight}
 use Rattle.model.specs.Doorbell.{inPart, admitted}
 use Rattle.model.specs.Ipi.{icrItem}
 use Rattle.model.specs.Events.{Act, notice, call, entry, nonDelivery, handBack, allow, Bytes, Event, step, next}
+use Rattle.vector_set.specs.Bits.{one}
 use Rattle.vector_set.specs.Sets.{has, highest}
 
 -- ---- the fields of a record
@@ -100,6 +102,10 @@ noVector x = false
 abbrev pub only : List Field → (ℕ → Bool) → Touched
 only fs g = record { own = fs; others = []; count = false; vectors = g }
 
+-- nothing
+abbrev pub untouched : Touched
+untouched = only [] noVector
+
 -- the vector x is the one that there may be
 abbrev pub isThat : ℕ → Option ℕ → Bool
 isThat x none = false
@@ -123,7 +129,7 @@ unfoldable pub registrationTouches : ℕ → Touched
 registrationTouches c =
     cond (eqb c 0) (only (flight ∷ phase ∷ []) noVector)
     (cond (eqb c 1) (record { own = flight ∷ phase ∷ []; others = []; count = true; vectors = noVector })
-    (record { own = flight ∷ []; others = []; count = true; vectors = noVector }))
+    (cond (eqb c 2) (record { own = flight ∷ []; others = []; count = true; vectors = noVector }) untouched))
 
 -- an ICR write of x, which reaches other vCPUs too (7.17, 7.25)
 abbrev pub icrTouches : ℕ → Touched
@@ -135,20 +141,20 @@ icrTouches x =
       vectors = λ y. isItem (Vector y) (some (icrItem x));
     }
 
--- call 3 by the register, of a vCPU with the record v: EOI, self-IPI, TPR, and else the ICR (6.22, 6.25, 7.22, 7.23)
+-- call 3 by the register, of a vCPU with the record v: EOI, self-IPI, TPR, ICR; no other is written (6.22, 6.25, 7.22, 7.23)
 unfoldable pub writeTouches : Vcpu → ℕ → ℕ → Touched
 writeTouches v r x =
     cond (eqb r 0x80B) (only (flight ∷ isr ∷ isrLevel ∷ []) (λ y. isThat y (highest (v .isr))))
     (cond (eqb r 0x83F) (only (flight ∷ pendingFields (Vector x)) (λ y. eqb y x))
-    (cond (eqb r 0x808) (only (flight ∷ tpr ∷ []) noVector) (icrTouches x)))
+    (cond (eqb r 0x808) (only (flight ∷ tpr ∷ []) noVector) (cond (eqb r 0x830) (icrTouches x) untouched)))
 
--- a guest call by its number, ECX and RDX; calls 0 and 2, and none above 4, touch what is in flight alone (5.3, 5.5, 5.16, 5.25)
+-- a guest call by its number, ECX and RDX; calls 0 and 2 touch what is in flight alone, and there is none above 4 (5.3, 5.5, 5.16, 5.25)
 unfoldable pub callTouches : Vcpu → ℕ → ℕ → ℕ → Touched
 callTouches v op c x =
     cond (eqb op 1) (registrationTouches c)
     (cond (eqb op 3) (writeTouches v c x)
     (cond (eqb op 4) (only (flight ∷ allowed ∷ []) (λ y. eqb y (c % 256)))
-    (only (flight ∷ []) noVector)))
+    (cond (eqb op 0 || eqb op 2) (only (flight ∷ []) noVector) untouched)))
 
 -- one of the values names the vector x (5.15)
 abbrev pub names : List ℕ → ℕ → Bool
@@ -170,8 +176,50 @@ actTouches l v o (allow cs q) = only (flight ∷ allowed ∷ []) (names cs)
 abbrev pub touches : Module → Event → Touched
 touches m e = actTouches (m .vmpl) (vcpuAt m (e .vcpu)) (presentedBy (step m e .result)) (e .act)
 
+-- ---- the table itself, written out: of a row the fields by their numbers, those of the own record, then those of others, and the count
+abbrev pub fieldBits : List Field → ℕ
+fieldBits [] = 0
+fieldBits (f ∷ fs) = 2 ^ place f + fieldBits fs
+
+abbrev pub rowBits : Touched → ℕ
+rowBits t = fieldBits (t .own) + 2 ^ 12 * fieldBits (t .others) + 2 ^ 24 * one (t .count)
+
+-- a bit for each of A, P, S, PL, SL, the two marks, TPR, ICR, phase, in flight and the byte, in this order (13.108)
+unfoldable pub rows : List ℕ
+rows =
+    rowBits (actTouches 1 absent none (notice []))
+    ∷ rowBits (actTouches 1 absent none (call 0 0 0))
+    ∷ rowBits (actTouches 1 absent none (call 1 0 0))
+    ∷ rowBits (actTouches 1 absent none (call 1 1 0))
+    ∷ rowBits (actTouches 1 absent none (call 1 2 0))
+    ∷ rowBits (actTouches 1 absent none (call 1 3 0))
+    ∷ rowBits (actTouches 1 absent none (call 2 0x808 0))
+    ∷ rowBits (actTouches 1 absent none (call 3 0x80B 0))
+    ∷ rowBits (actTouches 1 absent none (call 3 0x83F 0x41))
+    ∷ rowBits (actTouches 1 absent none (call 3 0x808 0))
+    ∷ rowBits (actTouches 1 absent none (call 3 0x830 0x4041))
+    ∷ rowBits (actTouches 1 absent none (call 3 0x830 0x4400))
+    ∷ rowBits (actTouches 1 absent none (call 3 0x80A 0))
+    ∷ rowBits (actTouches 1 absent none (call 4 0x141 0))
+    ∷ rowBits (actTouches 1 absent none (call 5 0 0))
+    ∷ rowBits (actTouches 1 absent none (entry true false false))
+    ∷ rowBits (actTouches 1 absent (some Nmi) (entry true false false))
+    ∷ rowBits (actTouches 1 absent (some MachineCheck) (entry true false false))
+    ∷ rowBits (actTouches 1 absent (some (Vector 0x41)) (entry true false false))
+    ∷ rowBits (actTouches 1 (withFlight inFlight.Nmi absent) none nonDelivery)
+    ∷ rowBits (actTouches 1 (withFlight inFlight.MachineCheck absent) none nonDelivery)
+    ∷ rowBits (actTouches 1 (withFlight (inFlight.Vector 0x41) absent) none nonDelivery)
+    ∷ rowBits (actTouches 1 absent none (handBack [] true false))
+    ∷ rowBits (actTouches 1 absent none (allow [] []))
+    ∷ []
+
 -- ---- the claim, of every module value and event: what the table does not name is as before
 pub record LeavesAlone : Type 0 where
+  -- the table, and that no record has more fields than it speaks of (13.108)
+  pub table : rows
+      ≡ (0x86A ∷ 0x400 ∷ 0x600 ∷ 0x100_0600 ∷ 0x100_0400 ∷ 0 ∷ 0x400 ∷ 0x414 ∷ 0xC02 ∷ 0x480 ∷ 0x80_2D02 ∷ 0x2_0520 ∷ 0 ∷ 0x401 ∷ 0 ∷ 0x400 ∷ 0x420
+      ∷ 0x440 ∷ 0xC1E ∷ 0x420 ∷ 0x440 ∷ 0xC1E ∷ 0xA7F ∷ 0x401 ∷ [])
+  pub whole : (u v : Vcpu) → ((f : Field) → Same f u v) → u ≡ v
   -- of the record of its vCPU, a field (13.108)
   pub ownField : (m : Module) (e : Event) (f : Field) → listed (touches m e .own) f ≡ false → Same f (vcpuAt (next m e) (e .vcpu)) (vcpuAt m (e .vcpu))
   -- of any other record (13.108)

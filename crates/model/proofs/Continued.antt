@@ -1,6 +1,6 @@
 -- What holds from any module value on, proved; for what stands above the module.
 -- Assumes nothing.
-use mathlib.Core.Path.{_≡_, refl, sym, ap, _∙_}
+use mathlib.Core.Path.{_≡_, refl, sym, ap, subst, _∙_}
 use mathlib.Core.Bool.{Bool, true, false, cond, not, _&&_, _||_}
 use mathlib.Core.List.{List, [], _∷_, _++_}
 use mathlib.Core.Option.{Option, none, some, Option·getD}
@@ -31,7 +31,8 @@ use Rattle.model.specs.Continued.{onlyReads, putBack, bytesAt, Continued
 use Rattle.vector_set.proofs.Laws.{clash}
 use Rattle.model.proofs.Bytes.{written-is}
 use Rattle.model.proofs.Stored.{needed, by-verdict, put-same, count-same}
-use Rattle.model.proofs.Stays.{n-next, vmpl-final}
+use Rattle.model.proofs.Stays.{n-next, vmpl-next, vmpl-final, list-keeps}
+use Rattle.model.proofs.Kept.{keeps-beyond}
 use Rattle.model.proofs.Summarised.{final-summed}
 use Rattle.model.proofs.ReadBack.{handed-length}
 use Rattle.model.proofs.Demand1.{has-size, refusals}
@@ -226,15 +227,23 @@ zero-next m e z =
     ∙ zero-effect (m .vmpl) (e .vcpu) (m .registrations) (vcpuAt m (e .vcpu)) (e .act) z (needed (knows m (e .vcpu)) UnknownVcpu _ p .1))
 
 zero-final : (es : List Event) (m : Module) → m .registrations ≡ 0 → final m es .registrations ≡ 0
-unfolding final
-zero-final [] m z = z
-zero-final (e ∷ es) m z = zero-final es (next m e) (zero-next m e z)
+zero-final es m = list-keeps (λ u. u .registrations ≡ 0) zero-next es m
 
 -- ---- n
+size-next : (m : Module) (e : Event) → size (next m e) ≡ size m
+unfolding size
+size-next m e = rw (n-next m e, vmpl-next m e)
+
 pub n-final : (es : List Event) (m : Module) → final m es .n ≡ m .n
 unfolding final
 n-final [] m = refl
 n-final (e ∷ es) m = n-final es (next m e) ∙ n-next m e
+
+-- ---- what stands at n and above
+beyond-final : (es : List Event) (m : Module) (j : ℕ) → size m ≤ j → vcpuAt (final m es) j ≡ vcpuAt m j
+unfolding final
+beyond-final [] m j h = refl
+beyond-final (e ∷ es) m j h = beyond-final es (next m e) j (subst (λ k. k ≤ j) (sym (size-next m e)) h) ∙ keeps-beyond m e j h
 
 -- ---- a hand-back, by the length of its page
 written-bytes : (l : ℕ) (b p : Bytes) → 64 * l + 64 ≤ length p → length b ≡ 64 → bytesAt l (written l b p) ≡ b
@@ -291,6 +300,7 @@ continued =
     record {
       soundStays = sound-final;
       summaryStays = λ m es j. final-summed es m j;
+      beyondStays = λ m es. beyond-final es m;
       noneStays = λ m es. zero-final es m;
       sizeStays = λ m es. n-final es m;
       levelStays = λ m es. vmpl-final es m;

@@ -14,14 +14,14 @@ use Rattle.model.specs.State.{isLeaving, size, vcpuAt, start}
 use Rattle.model.specs.Codes.{Verdict, accept, refuse, done}
 use Rattle.model.specs.Doorbell.{longEnough, admitted}
 use Rattle.model.specs.Events.{handBack, at, Bytes, Event, handBackRefusal, vcpuVerdict, verdict, effect, concluded, decided, step, final}
-use Rattle.model.specs.Reached.{Ruled, SoundModule}
+use Rattle.model.specs.Reached.{Levelled, Sound}
 use Rattle.model.specs.Demand2.{announce, pendingPart, ReadsBack, Demand2}
 use Rattle.vector_set.specs.Sets.{full}
 use Rattle.vector_set.proofs.Laws.{clash}
 use Rattle.model.proofs.Stored.{needed}
 use Rattle.model.proofs.Allowed.{nmi-admitted, machine-check-admitted}
 use Rattle.model.proofs.SoundRecords.{formed-of, sound-of}
-use Rattle.model.proofs.Reached.{all-final, all-reached}
+use Rattle.model.proofs.Reached.{final-formed, formed-reached}
 use Rattle.model.proofs.Summarised.{final-summed, reached-summed}
 use Rattle.model.proofs.ReadBack.{read-back}
 use Rattle.model.proofs.Kept.{keeps-level, calls-keep-pending, keeps-inactive, keeps-beyond}
@@ -55,7 +55,7 @@ accepted-in m i p iF sh e =
     (a .0, needed (longEnough p) ShortPage accept (b .1) .0)
 
 -- ---- the read-back
-pub reads-back : (m : Module) (i : ℕ) → Ruled (vcpuAt m i) → (p : Bytes) (iF sh : Bool) → ReadsBack m i p iF sh
+pub reads-back : (m : Module) (i : ℕ) → Levelled (vcpuAt m i .irr) (vcpuAt m i .«irr_level») → (p : Bytes) (iF sh : Bool) → ReadsBack m i p iF sh
 unfolding step concluded effect
 reads-back m i s p iF sh = over (verdict m (at i (handBack p iF sh))) (accepted-in m i p iF sh)
   where
@@ -68,19 +68,18 @@ reads-back m i s p iF sh = over (verdict m (at i (handBack p iF sh))) (accepted-
         read-back (m .vmpl) (vcpuAt m i) p s (b .0) (b .1) (leb-true 256 (length p) (a .1))
 
 -- ---- soundness
-pub sound-final : (m : Module) (es : List Event) → SoundModule m → SoundModule (final m es)
-sound-final m es h i =
-    sound-of (vcpuAt (final m es) i) (all-final es m (λ j. formed-of (vcpuAt m j) (h j)) i)
-    (final-summed es m i (h i .ruled .irr .words, h i .ruled .summary) .1)
+pub sound-final : (m : Module) (es : List Event) (j : ℕ) → Sound (vcpuAt m j) → Sound (vcpuAt (final m es) j)
+sound-final m es j h =
+    sound-of (vcpuAt (final m es) j) (final-formed es m j (formed-of (vcpuAt m j) h)) (final-summed es m j (h .ruled .irr .words, h .ruled .summary) .1)
 
-sound-reached : (n l : ℕ) (es : List Event) → SoundModule (final (start n l) es)
-sound-reached n l es i = sound-of (vcpuAt (final (start n l) es) i) (all-reached n l es i) (reached-summed n l es i .1)
+sound-reached : (n l : ℕ) (es : List Event) (i : ℕ) → Sound (vcpuAt (final (start n l) es) i)
+sound-reached n l es i = sound-of (vcpuAt (final (start n l) es) i) (formed-reached n l es i) (reached-summed n l es i .1)
 
 pub demand2 : Demand2
 demand2 =
     record {
       reached = sound-reached;
-      readBack = λ n l es i. reads-back (final (start n l) es) i (sound-reached n l es i .ruled);
+      readBack = λ n l es i. reads-back (final (start n l) es) i (sound-reached n l es i .ruled .irr);
       keepsLevel = keeps-level;
       callsKeepPending = calls-keep-pending;
       keepsInactive = keeps-inactive;

@@ -2,40 +2,37 @@
 -- Assumes nothing.
 use mathlib.Core.Path.{_≡_, refl, sym, ap, subst, _∙_}
 use mathlib.Core.Bool.{Bool, true, false, cond, not, _&&_, _||_, and-true}
-use mathlib.Core.List.{List, []}
-use mathlib.Core.Option.{Option, none, some}
+use mathlib.Core.List.{[]}
+use mathlib.Core.Option.{none, some}
 use Prim.Native.Nat.{ℕ, _+_, _*_, _-_, _%_, _<_, _≤_}
 use native.Mathlib.Omega.{arith}
 use lib.Dec.{leb, ltb, eqb}
 use lib.ListN.{length, getD}
 use borrow.Author.Tests.{eq-eqb, leb-true, leb-false, ltb-true}
 use Rattle.model.specs.declared.InFlight.the-variants as flight
-use Rattle.model.specs.declared.Item.{Item}
 use Rattle.model.specs.declared.Item.the-variants.{Vector}
 use Rattle.model.specs.declared.Refusal.{Refusal}
-use Rattle.model.specs.declared.Refusal.the-variants.{UnknownVcpu, NotActive, BadParameter}
+use Rattle.model.specs.declared.Refusal.the-variants.{BadParameter}
 use Rattle.model.specs.declared.Local.{Local}
 use Rattle.model.specs.declared.Local.the-variants as local
-use Rattle.model.specs.declared.Request.{Request}
 use Rattle.model.specs.declared.Request.the-variants as request
 use Rattle.model.specs.declared.Vcpu.{Vcpu}
 use Rattle.model.specs.declared.Module.{Module}
-use Rattle.model.specs.State.{isActive, size, vcpuAt}
+use Rattle.model.specs.State.{size, vcpuAt}
 use Rattle.model.specs.Codes.{codeOf, accept, Answer, presents, done, answers, refused}
 use Rattle.model.specs.Items.{itemInFlight, mark, unmark, unmarkAll}
-use Rattle.model.specs.Doorbell.{bitOf, mapBits, manyBit, announces, descriptor, clearsBit, descriptorBit, clears, noticedPage}
-use Rattle.model.specs.Registers.{within, kindOf, isRead, isWrite, isBoth, registerValue, endedAt, ended, endedLevelAt, endedLevel}
-use Rattle.model.specs.Ipi.{icrItem}
-use Rattle.model.specs.Requests.{bad, writeValue, requestOf, forget, serve, callVerdict}
+use Rattle.model.specs.Doorbell.{bitOf, mapBits, manyBit, announces, descriptor, clearsBit, clears, noticedPage}
+use Rattle.model.specs.Registers.{kindOf, isRead, isWrite, isBoth, registerValue, endedAt, ended, endedLevelAt, endedLevel}
+use Rattle.model.specs.Requests.{writeValue, requestOf, forget, serve, callVerdict}
 use Rattle.model.specs.Events.{notice, call, entry, nonDelivery, handBack, at, Bytes, handed, offer, present, entered, giveBack, undelivered, emptied}
-use Rattle.model.specs.Events.{vcpuVerdict, verdict, callEffect, effect, effectOf, concluded, step, next}
+use Rattle.model.specs.Events.{vcpuVerdict, verdict, callEffect, effect, concluded, step, next}
 use Rattle.model.specs.Touches.{Field, allowed, irr, isr, irrLevel, isrLevel, nmi, machineCheck, tpr, icr, phase, flight, summary, setIn}
 use Rattle.model.specs.Moves.{Served, Requeued, noticeBit, Moves}
-use Rattle.vector_set.specs.Sets.{has, empty, insert, remove, highest}
+use Rattle.vector_set.specs.Sets.{has, highest}
 use Rattle.vector_set.proofs.BitLaws.{bit-zero}
 use Rattle.vector_set.proofs.Laws.{clash, has-collect, has-insert, has-remove, has-empty}
 use Rattle.model.proofs.Bytes.{mapBits-length, mapBits-bit, spliced, spliced-length, spliced-before, spliced-after, written-is}
-use Rattle.model.proofs.Stored.{stored-at, needed, by-verdict, known-of}
+use Rattle.model.proofs.Stored.{stored-at, by-verdict, known-of}
 use Rattle.model.proofs.ItemLaws.{unmarkAll-is}
 use Rattle.model.proofs.IcrWrites.{number-of, by-answer, at-caller}
 use Rattle.model.proofs.ReadBack.{handed-length}

@@ -4,42 +4,32 @@ use mathlib.Core.Path.{refl}
 use mathlib.Core.Bool.{Bool, true, false, cond}
 use mathlib.Core.List.{List, [], _∷_, _++_}
 use Prim.Native.Nat.{ℕ, zero, suc, _-_}
-use lib.ListN.{getD, set, replicate}
+use lib.ListN.{getD, replicate}
 use Rattle.model.specs.declared.Phase.{Phase}
-use Rattle.model.specs.declared.Item.{Item}
-use Rattle.model.specs.declared.Target.{Target}
 use Rattle.model.specs.declared.Vcpu.{Vcpu}
 use Rattle.model.specs.declared.Module.{Module}
-use Rattle.model.specs.State.{bare, fresh, absent, size, vcpuAt, mayStart, started, stopped, start, withVcpu, withRegistrations}
-use Rattle.model.specs.Ipi.{icrItem, icrTarget, reach, mapFrom, sent}
-use Rattle.model.specs.Events.{Event, Reply, gives, sends, effectOf, concluded, deliver, next, final}
-use Rattle.model.specs.Items.{IsVector}
+use Rattle.model.specs.State.{bare, fresh, absent, vcpuAt, mayStart, started, stopped, start}
+use Rattle.model.specs.Ipi.{icrItem, reach}
+use Rattle.model.specs.Events.{Event, Reply, gives, sends, effect, next, final}
 use Rattle.vector_set.proofs.Laws.{words-empty}
-use Rattle.model.proofs.Stored.{by-reach, by-verdict, known-of}
+use Rattle.model.proofs.Stays.{MarksKeep, record-keeps, list-keeps}
 use Rattle.model.proofs.LevelledLaws.{levelled-empty}
 use Rattle.model.proofs.SoundRecords.{Formed, at-rest, sound-mark, none-named, Sending, sending-effect, sound-effect}
 
--- ---- the records of a module
-abbrev pub AllFormed : Module → Type 0
-AllFormed m = (i : ℕ) → Formed (vcpuAt m i)
+-- ---- one record, over an event and over a list
+marks-formed : (r : Reply) → Sending r → MarksKeep Formed r
+marks-formed (gives r) q = tt
+marks-formed (sends x) q = λ v. sound-mark (icrItem x) v q
 
--- what holds at every place of a list
+next-formed : (m : Module) (e : Event) (j : ℕ) → Formed (vcpuAt m j) → Formed (vcpuAt (next m e) j)
+next-formed m e j = record-keeps Formed sound-effect (λ l i k v a. marks-formed (effect l i k v a .reply) (sending-effect l i k v a)) m e j
+
+pub final-formed : (es : List Event) (m : Module) (j : ℕ) → Formed (vcpuAt m j) → Formed (vcpuAt (final m es) j)
+final-formed es m j = list-keeps (λ u. Formed (vcpuAt u j)) (λ u e. next-formed u e j) es m
+
+-- ---- what holds at every place of a list of records
 abbrev Everywhere : (Vcpu → Type 0) → List Vcpu → Type 0
 Everywhere P l = (j : ℕ) → P (getD l j absent)
-
-at-set : (P : Vcpu → Type 0) (l : List Vcpu) (i : ℕ) (v : Vcpu) → P v → Everywhere P l → Everywhere P (set l i v)
-at-set P [] i v p h j = h j
-at-set P (u ∷ l) zero v p h zero = p
-at-set P (u ∷ l) zero v p h (suc j) = h (suc j)
-at-set P (u ∷ l) (suc i) v p h zero = h zero
-at-set P (u ∷ l) (suc i) v p h (suc j) = at-set P l i v p (λ j. h (suc j)) j
-
-at-mapFrom : (P : Vcpu → Type 0) (f : ℕ → Vcpu → Vcpu) → ((k : ℕ) (v : Vcpu) → P v → P (f k v)) → (k : ℕ) (l : List Vcpu) → Everywhere P l
-    → Everywhere P (mapFrom f k l)
-unfolding mapFrom
-at-mapFrom P f s k [] h j = h j
-at-mapFrom P f s k (v ∷ l) h zero = s k v (h zero)
-at-mapFrom P f s k (v ∷ l) h (suc j) = at-mapFrom P f s (suc k) l (λ j. h (suc j)) j
 
 at-append : (P : Vcpu → Type 0) (l r : List Vcpu) → Everywhere P l → Everywhere P r → Everywhere P (l ++ r)
 at-append P [] r h g j = g j
@@ -50,39 +40,6 @@ at-replicate : (P : Vcpu → Type 0) (v : Vcpu) → P v → P absent → (n : �
 at-replicate P v p d zero j = d
 at-replicate P v p d (suc n) zero = p
 at-replicate P v p d (suc n) (suc j) = at-replicate P v p d n j
-
-all-with : (m : Module) (i : ℕ) (v : Vcpu) → Formed v → AllFormed m → AllFormed (withVcpu m i v)
-unfolding vcpuAt withVcpu
-all-with m i v p h = at-set Formed (m .vcpus) i v p h
-
-all-count : (k : ℕ) (m : Module) → AllFormed m → AllFormed (withRegistrations k m)
-unfolding vcpuAt withRegistrations
-all-count k m h = h
-
-sound-reach : (y : Item) (t : Target) (i n k : ℕ) (v : Vcpu) → IsVector y → Formed v → Formed (reach y t i n k v)
-sound-reach y t i n k v q h = by-reach y t i n k v Formed (sound-mark y v q h) h
-
-all-sent : (y : Item) (t : Target) (i : ℕ) (m : Module) → IsVector y → AllFormed m → AllFormed (sent y t i m)
-unfolding vcpuAt sent
-all-sent y t i m q h = at-mapFrom Formed (reach y t i (size m)) (λ k v. sound-reach y t i (size m) k v q) 0 (m .vcpus) h
-
-all-delivered : (r : Reply) (i : ℕ) (m : Module) → Sending r → AllFormed m → AllFormed (deliver r i m)
-all-delivered (gives r) i m q h = h
-all-delivered (sends x) i m q h = all-sent (icrItem x) (icrTarget x) i m q h
-
-pub all-step : (m : Module) (e : Event) → AllFormed m → AllFormed (next m e)
-unfolding concluded
-all-step m e h =
-    by-verdict m e (λ o. AllFormed (o .after)) (λ c q. h)
-    (λ q. all-delivered (effectOf m e .reply) (e .vcpu) _ (sending-effect (m .vmpl) (e .vcpu) (m .registrations) (vcpuAt m (e .vcpu)) (e .act))
-    (all-count _ _ (all-with m (e .vcpu) _
-    (sound-effect (m .vmpl) (e .vcpu) (m .registrations) (vcpuAt m (e .vcpu)) (e .act) (known-of m (e .vcpu) (e .act) q .phase) (h (e .vcpu))) h)))
-
--- ---- a list
-pub all-final : (es : List Event) (m : Module) → AllFormed m → AllFormed (final m es)
-unfolding final
-all-final [] m h = h
-all-final (e ∷ es) m h = all-final es (next m e) (all-step m e h)
 
 -- ---- what start gives
 -- what holds of a record with nothing in it holds everywhere
@@ -100,5 +57,5 @@ sound-bare : (p : Phase) → Formed (bare p)
 unfolding bare
 sound-bare p = at-rest _ words-empty none-named levelled-empty levelled-empty refl
 
-pub all-reached : (n l : ℕ) (es : List Event) → AllFormed (final (start n l) es)
-all-reached n l es = all-final es (start n l) (everywhere-start Formed sound-bare n l)
+pub formed-reached : (n l : ℕ) (es : List Event) (j : ℕ) → Formed (vcpuAt (final (start n l) es) j)
+formed-reached n l es j = final-formed es (start n l) j (everywhere-start Formed sound-bare n l j)

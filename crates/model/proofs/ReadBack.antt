@@ -16,7 +16,7 @@ use Rattle.model.specs.Doorbell.{nmiBit, machineCheckBit, levelBit, many
 use Rattle.model.specs.Doorbell.{isLevel, admitsMark, admitsLevel, admitsEdge, admits, admitted, handedBit, servingBit, handedBytes, written}
 use Rattle.model.specs.Events.{handed}
 use Rattle.model.specs.Demand2.{announce, pendingPart}
-use Rattle.model.specs.Reached.{Levelled, Ruled}
+use Rattle.model.specs.Reached.{Levelled}
 use Rattle.model.proofs.Tests.{eqb-above, eqb-below}
 use Rattle.model.proofs.LevelledLaws.{levelled-low}
 use Rattle.model.proofs.Bytes.{bitOf-byte, bytesFrom-at, bytesFrom-length, bytesFrom-bit}
@@ -254,10 +254,10 @@ module _ (v : Vcpu) (sound : Levelled (v .irr) (v .«irr_level»)) where
     collect-ext (admitsEdge full d) (λ x. irr x && not (level x)) reads-edge,
   )
 
--- ---- the read-back of the page that a hand-back leaves, from any sound record
-pub read-back : (l : ℕ) (v : Vcpu) (p : List ℕ) → Ruled v → 1 ≤ l → l ≤ 3 → 256 ≤ length p
+-- ---- the read-back of the page that a hand-back leaves, from any record whose P and PL keep the rules
+pub read-back : (l : ℕ) (v : Vcpu) (p : List ℕ) → Levelled (v .irr) (v .«irr_level») → 1 ≤ l → l ≤ 3 → 256 ≤ length p
     → admitted l full (announce l (written l (handed v) p)) ≡ pendingPart v
 unfolding admitted
 read-back l v p s low high long =
     rw (announced l (written l (handed v) p) (omega (arith, after-length l v p low high long)) high, descriptor-is l v p low high long)
-    (reads v (s .irr))
+    (reads v s)

@@ -1,10 +1,10 @@
 -- Why the summary of P is true after every event: each change of P is one `putIrr`, which keeps it.
 -- Assumes nothing.
-use mathlib.Core.Path.{_≡_, refl, sym, ap, _∙_, subst}
+use mathlib.Core.Path.{sym, ap, _∙_}
 use mathlib.Core.Bool.{Bool, true, false, not, _&&_, _||_}
-use mathlib.Core.List.{List, [], _∷_}
+use mathlib.Core.List.{List}
 use mathlib.Core.Option.{Option, none, some}
-use Prim.Native.Nat.{ℕ, _-_, _<_}
+use Prim.Native.Nat.{ℕ, _-_}
 use lib.Dec.{eqb}
 use Rattle.model.specs.declared.Phase.{Phase}
 use Rattle.model.specs.declared.Item.{Item}
@@ -15,21 +15,21 @@ use Rattle.model.specs.declared.Request.{Request}
 use Rattle.model.specs.declared.Request.the-variants as request
 use Rattle.model.specs.declared.Vcpu.{Vcpu}
 use Rattle.model.specs.declared.Module.{Module}
-use Rattle.model.specs.State.{bare, size, vcpuAt, start}
+use Rattle.model.specs.State.{bare, vcpuAt, start}
 use Rattle.model.specs.Codes.{Answer, nothing, presents, window}
 use Rattle.model.specs.Items.{itemInFlight, irrAfter, putIrr, mark, unmark, markAll, unmarkAll}
 use Rattle.model.specs.Registers.{endedAt, ended}
-use Rattle.model.specs.Ipi.{icrItem, icrTarget}
+use Rattle.model.specs.Ipi.{icrItem}
 use Rattle.model.specs.Requests.{requestOf, forget, leaveIf, serve}
 use Rattle.model.specs.Events.{Act, notice, call, entry, nonDelivery, handBack, allow, Bytes, Event, noticed, offer, present, entered, giveBack}
-use Rattle.model.specs.Events.{undelivered, emptied, Reply, gives, sends, callEffect, effect, effectOf, concluded, deliver, next, final}
+use Rattle.model.specs.Events.{undelivered, emptied, Reply, gives, sends, callEffect, effect, next, final}
 use Rattle.model.specs.SummaryClaims.{Summed}
-use Rattle.vector_set.specs.Sets.{Words, has, collect, highest}
+use Rattle.vector_set.specs.Sets.{has, highest}
 use Rattle.vector_set.specs.Summaries.{remade}
 use Rattle.vector_set.proofs.Laws.{has-collect, collect-words, words-empty}
 use Rattle.vector_set.proofs.SummaryLaws.{remade-true, summary-empty}
-use Rattle.model.proofs.Stored.{on-put, by-reach, vcpuAt-count, vcpuAt-sent, by-verdict, known-of}
 use Rattle.model.proofs.ListLaws.{after-each}
+use Rattle.model.proofs.Stays.{MarksKeep, record-keeps, list-keeps}
 use Rattle.model.proofs.Reached.{everywhere-start}
 
 -- ---- the one change of P
@@ -121,25 +121,15 @@ effect-summed l i k v (handBack p iF sh) h = put-summed false (λ x. true) v h
 effect-summed l i k v (allow cs q) h = after-each Summed i k (λ c u. call-summed (requestOf 4 c 0) i k u) _ v h
 
 -- ---- one event, and a list
-delivered-summed : (r : Reply) (i : ℕ) (m : Module) (j : ℕ) → Summed (vcpuAt m j) → Summed (vcpuAt (deliver r i m) j)
-delivered-summed (gives r) i m j h = h
-delivered-summed (sends y) i m j h =
-    subst Summed (sym (vcpuAt-sent (icrItem y) (icrTarget y) i m j))
-    (by-reach (icrItem y) (icrTarget y) i (size m) j (vcpuAt m j) Summed (mark-summed (icrItem y) (vcpuAt m j) h) h)
+marks-summed : (r : Reply) → MarksKeep Summed r
+marks-summed (gives r) = tt
+marks-summed (sends y) = λ v. mark-summed (icrItem y) v
 
 pub next-summed : (m : Module) (e : Event) (j : ℕ) → Summed (vcpuAt m j) → Summed (vcpuAt (next m e) j)
-unfolding concluded
-next-summed m e j h =
-    by-verdict m e (λ o. Summed (vcpuAt (o .after) j)) (λ c q. h)
-    (λ q. delivered-summed (effectOf m e .reply) (e .vcpu) _ j
-    (rw (vcpuAt-count)
-    (on-put m (e .vcpu) (effectOf m e .vcpu) j (known-of m (e .vcpu) (e .act) q .there) (λ _ _ u v. Summed u → Summed v)
-    (effect-summed (m .vmpl) (e .vcpu) (m .registrations) (vcpuAt m (e .vcpu)) (e .act)) (λ g. g) h)))
+next-summed m e j = record-keeps Summed (λ l i k v a on. effect-summed l i k v a) (λ l i k v a. marks-summed (effect l i k v a .reply)) m e j
 
 pub final-summed : (es : List Event) (m : Module) (j : ℕ) → Summed (vcpuAt m j) → Summed (vcpuAt (final m es) j)
-unfolding final
-final-summed [] m j h = h
-final-summed (e ∷ es) m j h = final-summed es (next m e) j (next-summed m e j h)
+final-summed es m j = list-keeps (λ u. Summed (vcpuAt u j)) (λ u e. next-summed u e j) es m
 
 bare-summed : (p : Phase) → Summed (bare p)
 unfolding bare

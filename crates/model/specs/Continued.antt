@@ -4,14 +4,14 @@ use mathlib.Core.Path.{_≡_}
 use mathlib.Core.Bool.{Bool, true, false, not, _||_}
 use mathlib.Core.List.{List}
 use mathlib.Core.Option.{none}
-use Prim.Native.Nat.{ℕ, _*_}
+use Prim.Native.Nat.{ℕ, _*_, _≤_}
 use lib.Dec.{eqb}
 use lib.ListN.{length, take, drop}
 use Rattle.model.specs.declared.Module.{Module}
-use Rattle.model.specs.State.{vcpuAt, mayStart, start, withVcpu, withFlight}
+use Rattle.model.specs.State.{size, vcpuAt, mayStart, start, withVcpu, withFlight}
 use Rattle.model.specs.Codes.{accepted, codeIn, presentedBy}
 use Rattle.model.specs.Events.{Act, notice, call, entry, nonDelivery, handBack, allow, at, Bytes, Event, knows, step, next, final}
-use Rattle.model.specs.Reached.{Ruled, SoundModule}
+use Rattle.model.specs.Reached.{Levelled, Sound}
 use Rattle.model.specs.Demand2.{ReadsBack}
 use Rattle.model.specs.SummaryClaims.{Summed}
 
@@ -34,12 +34,14 @@ bytesAt l p = take 64 (drop (64 * l) p)
 
 pub record Continued : Type 0 where
   -- ---- over every list of events
-  -- a sound module stays sound (13.111)
-  pub soundStays : (m : Module) (es : List Event) → SoundModule m → SoundModule (final m es)
-  -- so does one record's true summary (13.111)
+  -- a sound record stays sound, whatever the others are, and so every record of a sound module (13.111)
+  pub soundStays : (m : Module) (es : List Event) (j : ℕ) → Sound (vcpuAt m j) → Sound (vcpuAt (final m es) j)
+  -- a true summary stays true, be the record sound or not (13.111)
   pub summaryStays : (m : Module) (es : List Event) (j : ℕ) → Summed (vcpuAt m j) → Summed (vcpuAt (final m es) j)
   -- where the count is 0 it stays 0 (13.112)
   pub noneStays : (m : Module) (es : List Event) → m .registrations ≡ 0 → final m es .registrations ≡ 0
+  -- what stands at n and above stays (13.50)
+  pub beyondStays : (m : Module) (es : List Event) (j : ℕ) → size m ≤ j → vcpuAt (final m es) j ≡ vcpuAt m j
   -- n and the VMPL stay (13.110)
   pub sizeStays : (m : Module) (es : List Event) → final m es .n ≡ m .n
   pub levelStays : (m : Module) (es : List Event) → final m es .vmpl ≡ m .vmpl
@@ -58,7 +60,7 @@ pub record Continued : Type 0 where
       × (next m (at i (handBack p iF sh)) ≡ next m (at i (handBack q iF sh)))
       × (accepted (step m (at i (handBack p iF sh)) .result) ≡ true
       → bytesAt (m .vmpl) (step m (at i (handBack p iF sh)) .page) ≡ bytesAt (m .vmpl) (step m (at i (handBack q iF sh)) .page))
-  -- and it reads back where the vCPU's record keeps the rules, whether events reach it or not (13.118)
-  pub readBack : (m : Module) (i : ℕ) → Ruled (vcpuAt m i) → (p : Bytes) (iF sh : Bool) → ReadsBack m i p iF sh
-  -- ---- of start
+  -- and it reads back where P and PL of the vCPU's record keep the rules, whether events reach it or not (13.118)
+  pub readBack : (m : Module) (i : ℕ) → Levelled (vcpuAt m i .irr) (vcpuAt m i .«irr_level») → (p : Bytes) (iF sh : Bool) → ReadsBack m i p iF sh
+  -- ---- of start (3.2)
   pub startsWith : (n l : ℕ) → mayStart n l ≡ true → (start n l .n ≡ n) × (start n l .vmpl ≡ l)

@@ -6,8 +6,7 @@ use mathlib.Core.List.{List}
 use Prim.Native.Nat.{ℕ, _<_}
 use Rattle.model.specs.declared.InFlight.the-variants as flight
 use Rattle.model.specs.declared.Vcpu.{Vcpu}
-use Rattle.model.specs.declared.Module.{Module}
-use Rattle.model.specs.State.{isActive, vcpuAt}
+use Rattle.model.specs.State.{isActive}
 use Rattle.model.specs.Requests.{mayName}
 use Rattle.vector_set.specs.Sets.{Words, has}
 use Rattle.vector_set.specs.Summaries.{summaryOf}
@@ -23,23 +22,23 @@ pub record Levelled (s t : List ℕ) : Type 0 where
 abbrev pub Summarised : Vcpu → Type 0
 Summarised v = v .summary ≡ summaryOf (v .irr)
 
--- the rules on P, S, PL and SL, and the byte: by these alone a stored state may be refused (13.13, 13.76; 02, A11)
+-- the rules on P, S, PL and SL, and the byte (13.13, 13.76)
 pub record Ruled (v : Vcpu) : Type 0 where
   pub irr : Levelled (v .irr) (v .«irr_level»)
   pub isr : Levelled (v .isr) (v .«isr_level»)
   pub summary : Summarised v
 
--- what holds of each record: those rules, and the rest (13.13 to 13.16, 13.76)
+-- a vector in flight is in service (13.15)
+abbrev pub InService : Vcpu → Type 0
+InService v = (x : ℕ) → v .flight ≡ flight.Vector x → has (v .isr) x ≡ true
+
+-- what holds of each record: what a saved state is to be held to, `ruled` and `inService` (02, A11), and what is true besides where events reach it. Only
+-- all of it together stays so: of a vCPU that is leaving with its vector in flight a hand-back empties S (13.13 to 13.16, 13.76)
 pub record Sound (v : Vcpu) : Type 0 where
   pub ruled : Ruled v
+  pub inService : InService v
   -- A holds 2, 18 and 31 to 255 alone
   pub words : Words (v .allowed)
   pub nameable : (x : ℕ) → x < 256 → has (v .allowed) x ≡ true → mayName x ≡ true
-  -- a vector in flight is in service
-  pub inService : (x : ℕ) → v .flight ≡ flight.Vector x → has (v .isr) x ≡ true
   -- where the vCPU is not active nothing is in flight
   pub inactive : isActive (v .phase) ≡ false → v .flight ≡ flight.Nothing
-
--- every record of a module is sound
-abbrev pub SoundModule : Module → Type 0
-SoundModule m = (i : ℕ) → Sound (vcpuAt m i)

@@ -26,11 +26,11 @@ use Rattle.model.specs.Cases.{zeros, announcing, byte64, onPage, resultO
 
 -- ---- what the cases use
 -- n bytes b from byte i on
-abbrev filled : ℕ → ℕ → ℕ → List ℕ → List ℕ
+abbrev pub filled : ℕ → ℕ → ℕ → List ℕ → List ℕ
 filled i b zero p = p
 filled i b (suc n) p = set (filled i b n p) (i + n) b
 
-abbrev ones : List ℕ
+abbrev pub ones : List ℕ
 ones = replicate 256 0xFF
 
 abbrev pub pageAfter : Module → Event → List ℕ

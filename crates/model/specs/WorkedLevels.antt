@@ -1,5 +1,5 @@
--- Worked cases at the VMPLs 2 and 3, of the ID and of high vectors at an EOI, of an edge vector that comes back where it is level-sensitive by now, and of
--- marks beside a level-sensitive vector that is not admitted (14.98 to 14.103).
+-- Worked cases at the VMPLs 2 and 3, of the ID, of high vectors and a high TPR, of the words of registers that no other case reads, of a vector that comes
+-- back where it was requested otherwise meanwhile, and of marks beside a level-sensitive vector that is not admitted (14.98 to 14.105).
 -- Assumes nothing.
 use mathlib.Core.Path.{_≡_}
 use mathlib.Core.Bool.{Bool, true, false}
@@ -8,11 +8,11 @@ use Prim.Native.Nat.{ℕ}
 use lib.ListN.{set}
 use Rattle.model.specs.declared.Phase.the-variants.{Leaving}
 use Rattle.model.specs.declared.Module.{Module}
-use Rattle.model.specs.State.{vcpuAt, start, withVcpu, withAllowed, withIsr, withIsrLevel, withPhase}
+use Rattle.model.specs.State.{vcpuAt, start, withVcpu, withAllowed, withIsr, withIrrLevel, withIsrLevel, withTpr, withPhase}
 use Rattle.model.specs.Events.{notice, call, nonDelivery, handBack, at, Out, step, next}
-use Rattle.model.specs.Cases.{sameNumbers, gives, counts, isPresented, fresh2, having, record0, singleton, withPending, zeros, announcing}
-use Rattle.model.specs.Cases.{byte64, onPage, pendingAfter, resultOn, every}
-use Rattle.model.specs.Worked.{eoi, enters}
+use Rattle.model.specs.Cases.{sameNumbers, gives, counts, isNothing, isPresented, fresh2, having, record0, singleton, withPending, zeros, announcing}
+use Rattle.model.specs.Cases.{byte64, onPage, pendingAfter, resultOn, level61, every}
+use Rattle.model.specs.Worked.{filled, ones, eoi, enters, reads}
 use Rattle.vector_set.specs.Sets.{empty, insert}
 
 -- ---- the VMPLs 2 and 3
@@ -24,10 +24,10 @@ allowing l = withVcpu (start 2 l) 0 (withAllowed (singleton 0x41) record0)
 abbrev toldAt : ℕ → ℕ → ℕ → Out
 toldAt l b k = step (allowing l) (at 0 (notice (set (set zeros 3 b) k 0x41)))
 
--- vCPU 0 of a module at the VMPL l, leaving with 0x41 pending and 0x33 in service, is handed back with IF
+-- vCPU 0 of a module at the VMPL l, leaving with 0x41 pending and 0x33 in service, is handed back with IF, on a page of ones
 abbrev handedAt : ℕ → Out
 handedAt l =
-    step (withVcpu (start 2 l) 0 (withPhase Leaving (withIsr (singleton 0x33) (withPending (singleton 0x41) record0)))) (at 0 (handBack zeros true false))
+    step (withVcpu (start 2 l) 0 (withPhase Leaving (withIsr (singleton 0x33) (withPending (singleton 0x41) record0)))) (at 0 (handBack ones true false))
 
 -- ---- an EOI
 -- what an EOI gives with v alone in service, and the set t of level-sensitive vectors there
@@ -41,6 +41,16 @@ returned41 =
     next
     (next (next (onPage (singleton 0x41) byte64 .after) (enters true false false)) (at 0 (notice (set byte64 65 0x04))))
     (at 0 nonDelivery)
+
+-- the other way round: 0x61, presented as level-sensitive, is requested as edge while it is in flight, and comes back
+abbrev returned61 : Module
+returned61 =
+    next (next (next level61 (enters true false false)) (at 0 (notice (set announcing 64 0x61)))) (at 0 nonDelivery)
+
+-- ---- registers
+-- 0x80, 0xA1, 0xC2 and 0xE3, which are in the words 4 to 7
+abbrev high : List ℕ
+high = insert 0x80 (insert 0xA1 (insert 0xC2 (singleton 0xE3)))
 
 -- ---- marks
 -- bits 10 and 14, the marks of 0x41 and 0x52, and this number in bits 7:0; 0x41 and 0x52 are allowed
@@ -65,27 +75,50 @@ levels =
     ∷ sameNumbers (toldAt 3 0x04 192 .page) zeros
     ∷ isPresented 0x41 (resultOn (toldAt 3 0x04 192 .after) (enters true false false))
     ∷ counts 0 0 (toldAt 3 0x03 192 .result)
+    ∷ sameNumbers (toldAt 3 0x03 192 .page) (set (set zeros 3 0x03) 192 0x41)
     ∷ counts 0 0 (toldAt 3 0x07 128 .result)
+    ∷ sameNumbers (toldAt 3 0x07 128 .page) (set (set zeros 3 0x03) 128 0x41)
     -- 14.100: a hand-back there
     ∷ gives 131073 (handedAt 2 .result)
-    ∷ sameNumbers (handedAt 2 .page) (set (set (set zeros 129 0x40) 136 0x02) 166 0x08)
+    ∷ sameNumbers (handedAt 2 .page) (set (set (set (filled 128 0 64 ones) 129 0x40) 136 0x02) 166 0x08)
     ∷ gives 196609 (handedAt 3 .result)
-    ∷ sameNumbers (handedAt 3 .page) (set (set (set zeros 193 0x40) 200 0x02) 230 0x08)
+    ∷ sameNumbers (handedAt 3 .page) (set (set (set (filled 192 0 64 ones) 193 0x40) 200 0x02) 230 0x08)
     -- 14.101: high vectors at an EOI
     ∷ eoiGives 0x80 0x80 (singleton 0x80)
     ∷ eoiGives 0xF1 0xF1 (singleton 0xF1)
     ∷ eoiGives 0xFF 0xFF (singleton 0xFF)
     ∷ eoiGives 0 0xF1 (singleton 0xF0)
-    -- 14.102: an edge vector comes back where it is level-sensitive by now: P, S, TMR
+    -- 14.102: an edge vector comes back where it is level-sensitive by now: P, S, TMR; and the other way round
     ∷ gives 2 (resultOn returned41 (at 0 (call 2 0x822 0)))
     ∷ gives 0 (resultOn returned41 (at 0 (call 2 0x812 0)))
     ∷ gives 2 (resultOn returned41 (at 0 (call 2 0x81A 0)))
+    ∷ gives 2 (resultOn returned61 (at 0 (call 2 0x823 0)))
+    ∷ gives 0 (resultOn returned61 (at 0 (call 2 0x813 0)))
+    ∷ gives 2 (resultOn returned61 (at 0 (call 2 0x81B 0)))
     -- 14.103: a level-sensitive vector that is not allowed, and one under 31, beside marks
     ∷ counts 2 0 (beside 0x61 .result)
     ∷ sameNumbers (pendingAfter (beside 0x61)) (insert 0x52 (singleton 0x41))
     ∷ sameNumbers (vcpuAt (beside 0x61 .after) 0 .«irr_level») empty
     ∷ counts 2 0 (beside 30 .result)
     ∷ sameNumbers (pendingAfter (beside 30)) (insert 0x52 (singleton 0x41))
+    -- 14.104: a high vector as edge, alone; at a high TPR; a high TPR in a hand-back's number
+    ∷ counts 1 0 (onPage (singleton 0xF1) (set announcing 64 0xF1) .result)
+    ∷ sameNumbers (pendingAfter (onPage (singleton 0xF1) (set announcing 64 0xF1))) (singleton 0xF1)
+    ∷ isNothing (resultOn (having (withTpr 0xF0 (withPending (singleton 0xF1) record0))) (enters true false false))
+    ∷ isPresented 0xF1 (resultOn (having (withTpr 0xEF (withPending (singleton 0xF1) record0))) (enters true false false))
+    ∷ gives 130817 (resultOn (having (withPhase Leaving (withTpr 0xFF record0))) (at 0 (handBack zeros true false)))
+    -- 14.105: the words 4 to 7 of ISR, TMR and IRR, and word 1
+    ∷ reads 1 0x814 (withIsr high record0)
+    ∷ reads 2 0x815 (withIsr high record0)
+    ∷ reads 4 0x816 (withIsr high record0)
+    ∷ reads 8 0x817 (withIsr high record0)
+    ∷ reads 1 0x81C (withIrrLevel high record0)
+    ∷ reads 2 0x81D (withIsrLevel high record0)
+    ∷ reads 4 0x81E (withIrrLevel high record0)
+    ∷ reads 1 0x824 (withPending high record0)
+    ∷ reads 2 0x825 (withPending high record0)
+    ∷ reads 4 0x826 (withPending high record0)
+    ∷ reads 8 0x821 (withPending (singleton 0x23) record0)
     ∷ []
 
 pub record WorkedLevels : Type 0 where

@@ -1,5 +1,5 @@
-//! The cases 14.98 to 14.103: the ID, the VMPLs 2 and 3, high vectors at an EOI, an edge vector that comes back where it is level-sensitive by now, and
-//! marks beside a level-sensitive vector that is not admitted.
+//! The cases 14.98 to 14.105: the ID, the VMPLs 2 and 3, high vectors and a high TPR, words of registers, a vector that comes back where it was requested
+//! otherwise meanwhile, and marks beside a level-sensitive vector that is not admitted.
 
 mod common;
 
@@ -60,9 +60,12 @@ fn hand_backs_at_vmpl_2_and_3() {
         r.pending = set(&[0x41]);
         r.service = set(&[0x33]);
         r.phase = Phase::Leaving;
-        let mut p = page(&[]);
+        let mut p = vec![0xFF; 256];
         assert_eq!(hand_back(&mut m, 0, &mut p, true, false), Ok(result));
-        assert_eq!(p, page(&[(at + 1, 0x40), (at + 8, 0x02), (at + 38, 0x08)]));
+        let mut after = vec![0xFF; 256];
+        after[at..at + 64].fill(0);
+        (after[at + 1], after[at + 8], after[at + 38]) = (0x40, 0x02, 0x08);
+        assert_eq!(p, after);
     }
 }
 
@@ -101,6 +104,22 @@ fn an_edge_vector_that_is_level_sensitive_by_now() {
     assert_eq!(read(&mut m, 0, 0x81A), Ok(2));
 }
 
+/// 14.102, the other way round
+#[test]
+fn a_level_vector_that_is_requested_as_edge_by_now() {
+    let mut m = allowing(&[0x61]);
+    let mut level = page(&[(3, 0x01), (64, 0x61), (65, 0x04)]);
+    assert_eq!(notice(&mut m, 0, &mut level), counted(1, 0));
+    let answer = entry(&mut m, 0, true, false, false);
+    assert_eq!(answer, Ok(Shown::Presented(Item::Vector(0x61))));
+    let mut edge = page(&[(3, 0x01), (64, 0x61)]);
+    assert_eq!(notice(&mut m, 0, &mut edge), counted(1, 0));
+    assert_eq!(non_delivery(&mut m, 0), Ok(0));
+    assert_eq!(read(&mut m, 0, 0x823), Ok(2));
+    assert_eq!(read(&mut m, 0, 0x813), Ok(0));
+    assert_eq!(read(&mut m, 0, 0x81B), Ok(2));
+}
+
 /// 14.103
 #[test]
 fn marks_beside_a_level_vector_that_is_not_admitted() {
@@ -111,4 +130,51 @@ fn marks_beside_a_level_vector_that_is_not_admitted() {
         assert_eq!(m.records[0].pending, set(&[0x41, 0x52]));
         assert_eq!(m.records[0].pending_level, set(&[]));
     }
+}
+
+/// 14.104
+#[test]
+fn high_vectors_and_a_high_tpr() {
+    let mut m = allowing(&[0xF1]);
+    let mut p = page(&[(3, 0x01), (64, 0xF1)]);
+    assert_eq!(notice(&mut m, 0, &mut p), counted(1, 0));
+    assert_eq!(m.records[0].pending, set(&[0xF1]));
+    m.records[0].tpr = 0xF0;
+    assert_eq!(entry(&mut m, 0, true, false, false), Ok(Shown::Nothing));
+    m.records[0].tpr = 0xEF;
+    let answer = entry(&mut m, 0, true, false, false);
+    assert_eq!(answer, Ok(Shown::Presented(Item::Vector(0xF1))));
+    let mut m = fresh(2, 1);
+    m.records[0].tpr = 0xFF;
+    m.records[0].phase = Phase::Leaving;
+    let answer = hand_back(&mut m, 0, &mut page(&[]), true, false);
+    assert_eq!(answer, Ok(130_817));
+}
+
+/// 14.105
+#[test]
+fn words_of_registers() {
+    let high = set(&[0x80, 0xA1, 0xC2, 0xE3]);
+    let mut m = fresh(2, 1);
+    m.records[0].service = high.clone();
+    for (register, value) in [(0x814, 1), (0x815, 2), (0x816, 4), (0x817, 8)] {
+        assert_eq!(read(&mut m, 0, register), Ok(value));
+    }
+    for (of_service, register, value) in [(false, 0x81C, 1), (true, 0x81D, 2), (false, 0x81E, 4)] {
+        let mut m = fresh(2, 1);
+        let r = &mut m.records[0];
+        *(if of_service {
+            &mut r.serving_level
+        } else {
+            &mut r.pending_level
+        }) = high.clone();
+        assert_eq!(read(&mut m, 0, register), Ok(value));
+    }
+    let mut m = fresh(2, 1);
+    m.records[0].pending = high;
+    for (register, value) in [(0x824, 1), (0x825, 2), (0x826, 4)] {
+        assert_eq!(read(&mut m, 0, register), Ok(value));
+    }
+    m.records[0].pending = set(&[0x23]);
+    assert_eq!(read(&mut m, 0, 0x821), Ok(8));
 }

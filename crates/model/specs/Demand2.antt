@@ -1,5 +1,6 @@
--- Demand 2: the gate is what kernels expect (13.6 to 13.18, 13.35 to 13.66, 13.70 to 13.72, 13.74). That each event's result, module and page are those of
--- `step` and `start` is said by the functions' contracts; here is what else is claimed of them.
+-- Demand 2: the gate is what kernels expect (13.6 to 13.18, 13.35 to 13.38, 13.41 to 13.48, 13.50, 13.51, 13.53 to 13.58, 13.60, 13.63, 13.65, 13.66, 13.70 to
+-- 13.72). What an event leaves alone is said in Touches, where what it moves ends in Moves. That each event's result, module and page are those of `step` and
+-- `start` is said by the functions' contracts; here is what else is claimed of them.
 -- Assumes nothing.
 use mathlib.Core.Path.{_≡_}
 use mathlib.Core.Bool.{Bool, true, false, cond, not, _&&_, _||_}
@@ -121,7 +122,7 @@ pub record Demand2 : Type 0 where
   -- of every module value: a notice, a guest call and a list of values take no vector out of PL, on any vCPU (13.17)
   pub keepsLevel : (m : Module) (e : Event) (j x : ℕ) → x < 256 → isRequest (e .act) ≡ true
       → has (vcpuAt m j .«irr_level») x ≡ true → has (vcpuAt (next m e) j .«irr_level») x ≡ true
-  -- of every module value: nor does it take away what is pending, on any vCPU (13.41)
+  -- of every module value: a guest call, an IPI among them, takes nothing away that is pending, on any vCPU (13.41)
   pub callsKeepPending : (m : Module) (i op c x j : ℕ) (y : Item) → InRange y → pending y (vcpuAt m j) ≡ true
       → pending y (vcpuAt (next m (at i (call op c x))) j) ≡ true
   -- of every module value: the record of a vCPU that is not active changes by its own hand-back alone
@@ -180,7 +181,8 @@ pub record Demand2 : Type 0 where
   -- of every module value: after an accepted hand-back nothing is pending there (13.58)
   pub handBackEmpties : (m : Module) (i r : ℕ) (p : Bytes) (iF sh : Bool) (x : Item) → InRange x → step m (at i (handBack p iF sh)) .result ≡ done r
       → pending x (vcpuAt (next m (at i (handBack p iF sh))) i) ≡ false
-  -- nor does it read one: with all of them cleared it has the same result, and it leaves the same module with all of them cleared (13.60)
+  -- of every module value: a guest call reads the mark of no machine check: with all of them cleared it has the same result, and it leaves the same module
+  -- with all of them cleared (13.60)
   pub callsApart : (m : Module) (i op c x : ℕ)
       → (step (withoutMachineChecks m) (at i (call op c x)) .result ≡ step m (at i (call op c x)) .result)
       × (next (withoutMachineChecks m) (at i (call op c x)) ≡ withoutMachineChecks (next m (at i (call op c x))))

@@ -39,12 +39,6 @@ isMachineCheck Nmi = false
 isMachineCheck MachineCheck = true
 isMachineCheck (Vector v) = false
 
--- the item is pending by a mark of its own (2.8, 2.16)
-abbrev pub hasMark : Item → Bool
-hasMark Nmi = true
-hasMark MachineCheck = true
-hasMark (Vector v) = false
-
 -- the item is the vector y
 abbrev pub isVectorItem : ℕ → Item → Bool
 isVectorItem y Nmi = false

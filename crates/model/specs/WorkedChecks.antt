@@ -16,7 +16,7 @@ use Rattle.model.specs.declared.Module.{Module}
 use Rattle.vector_set.specs.Sets.{empty, full, remove}
 use Rattle.model.specs.State.{vcpuAt, withIsr, withNmi, withMachineCheck, withTpr, withPhase}
 use Rattle.model.specs.Codes.{presentedResult}
-use Rattle.model.specs.Items.{InRange, hasMark, pending}
+use Rattle.model.specs.Items.{InRange, pending}
 use Rattle.model.specs.Events.{notice, call, nonDelivery, handBack, at, Event, next}
 use Rattle.model.specs.Cases.{sameNumbers, gives, counts, isRefused, fresh2, having, record0, singleton, withPending}
 use Rattle.model.specs.Cases.{zeros, announcing, onPage, resultOn, every}
@@ -176,8 +176,7 @@ checks =
     ∷ counts 3 0 (told record0 markedPage .result)
     ∷ pends true true (singleton 0x41) (told record0 markedPage .after)
     ∷ sameNumbers (told record0 markedPage .page) zeros
-    -- the items that the claims speak of, and what the functions' answers present
-    ∷ (hasMark item.Nmi && hasMark item.MachineCheck && not (hasMark (item.Vector 18)))
+    -- what the functions' answers present
     ∷ answersBy (isShown item.Nmi) (presentedResult presentation.Nmi)
     ∷ answersBy (isShown item.MachineCheck) (presentedResult presentation.MachineCheck)
     ∷ []

@@ -97,7 +97,7 @@ values =
     ∷ refusesSized 0x80000001 (having (withPhase Left record0)) 1 1
     -- 14.81: no call has the number 5
     ∷ isRefused 0x80000002 (resultOn fresh2 (at 0 (call 5 0x141 0)))
-    -- what the functions' answers say (13.9), and what the claims take a list for (13.17, 13.61)
+    -- what the functions' answers say (13.9), and what the claims take a list for (13.17, 12.33)
     ∷ givesCodes 7 (1 ∷ []) (listResult (outcome.Done 7) (1 ∷ []))
     ∷ isRefused 6 (listResult (outcome.Refused BadList) (1 ∷ []))
     ∷ (isRequest (allow [] []) && not (isCall (allow [] [])))

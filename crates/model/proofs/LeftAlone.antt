@@ -12,11 +12,13 @@ use Rattle.model.specs.declared.Vcpu.{Vcpu}
 use Rattle.model.specs.declared.Module.{Module}
 use Rattle.model.specs.State.{vcpu, bare, size, vcpuAt, withVcpu, withRegistrations}
 use Rattle.model.specs.Codes.{presentedBy}
+use Rattle.model.specs.Doorbell.{bitOf, announces, noPart, admitted}
 use Rattle.model.specs.Ipi.{icrItem, icrTarget, sent}
 use Rattle.model.specs.Events.{Event, Reply, gives, sends, Effect, effectOf, store, deliver, Out, concluded, next}
 use Rattle.model.specs.Touches.{Field, allowed, irr, isr, irrLevel, isrLevel, nmi, machineCheck, tpr, icr, phase, flight, summary, Same, setIn, listed}
 use Rattle.model.specs.Touches.{Touched, icrTouches, registrationTouches, writeTouches, callTouches, actTouches, touches, rows, LeavesAlone}
-use Rattle.vector_set.specs.Sets.{has}
+use Rattle.vector_set.specs.Bits.{bits}
+use Rattle.vector_set.specs.Sets.{has, words, collect, empty, highestBelow, highest}
 use Rattle.vector_set.proofs.Laws.{clash}
 use Rattle.model.proofs.Stored.{on-put, stored-at, vcpuAt-count, vcpuAt-sent, by-reach, by-verdict, known-of}
 use Rattle.model.proofs.Stays.{n-next, vmpl-next}
@@ -111,9 +113,9 @@ kept-count m e =
 
 -- ---- the table
 tabled : rows
-    ≡ (0x86A ∷ 0x400 ∷ 0x600 ∷ 0x100_0600 ∷ 0x100_0400 ∷ 0 ∷ 0x400 ∷ 0x414 ∷ 0xC02 ∷ 0x480 ∷ 0x80_2D02 ∷ 0x2_0520 ∷ 0 ∷ 0x401 ∷ 0 ∷ 0x400 ∷ 0x420
-    ∷ 0x440 ∷ 0xC1E ∷ 0x420 ∷ 0x440 ∷ 0xC1E ∷ 0xA7F ∷ 0x401 ∷ [])
-unfolding rows actTouches callTouches registrationTouches writeTouches icrItem bare
+    ≡ (0x86A ∷ 0x400 ∷ 0x600 ∷ 0x100_0600 ∷ 0x100_0400 ∷ 0 ∷ 0x400 ∷ 0x200_0414 ∷ 0x200_0C02 ∷ 0x480 ∷ 0x280_2D02 ∷ 0x2_0520 ∷ 0 ∷ 0x200_0401 ∷ 0 ∷ 0x400
+    ∷ 0x420 ∷ 0x440 ∷ 0x200_0C1E ∷ 0x420 ∷ 0x440 ∷ 0x200_0C1E ∷ 0x600_0A7F ∷ 0x200_0401 ∷ [])
+unfolding rows actTouches callTouches registrationTouches writeTouches icrItem bare highest highestBelow has admitted announces bitOf noPart empty collect words bits
 tabled = refl
 
 -- a record is its fields

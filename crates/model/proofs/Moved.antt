@@ -2,35 +2,41 @@
 -- Assumes nothing.
 use mathlib.Core.Path.{_≡_, refl, sym, ap, subst, _∙_}
 use mathlib.Core.Bool.{Bool, true, false, cond, not, _&&_, _||_, and-true}
-use mathlib.Core.List.{[]}
-use mathlib.Core.Option.{none, some}
-use Prim.Native.Nat.{ℕ, _+_, _*_, _-_, _%_, _<_, _≤_}
+use mathlib.Core.List.{List, []}
+use mathlib.Core.Option.{Option, none, some, Option·getD}
+use Prim.Native.Nat.{ℕ, _+_, _*_, _-_, _/_, _%_, _<_, _≤_}
 use native.Mathlib.Omega.{arith}
 use lib.Dec.{leb, ltb, eqb}
 use lib.ListN.{length, getD}
-use borrow.Author.Tests.{eq-eqb, leb-true, leb-false, ltb-true}
+use borrow.Author.Tests.{eq-eqb, leb-true, leb-false, ltb-true, ltb-false}
 use Rattle.model.specs.declared.InFlight.the-variants as flight
-use Rattle.model.specs.declared.Item.the-variants.{Vector}
+use Rattle.model.specs.declared.Item.the-variants.{Nmi, MachineCheck, Vector}
 use Rattle.model.specs.declared.Refusal.{Refusal}
-use Rattle.model.specs.declared.Refusal.the-variants.{BadParameter}
+use Rattle.model.specs.declared.Refusal.the-variants.{UnknownCall, BadRegister, BadParameter}
+use Rattle.model.specs.declared.Kind.{Kind}
+use Rattle.model.specs.declared.Kind.the-variants as kind
 use Rattle.model.specs.declared.Local.{Local}
 use Rattle.model.specs.declared.Local.the-variants as local
+use Rattle.model.specs.declared.Request.{Request}
 use Rattle.model.specs.declared.Request.the-variants as request
 use Rattle.model.specs.declared.Vcpu.{Vcpu}
 use Rattle.model.specs.declared.Module.{Module}
 use Rattle.model.specs.State.{size, vcpuAt}
-use Rattle.model.specs.Codes.{codeOf, accept, Answer, presents, done, answers, refused}
+use Rattle.model.specs.Codes.{codeOf, accept, Answer, nothing, presents, window, done, answers, refused}
 use Rattle.model.specs.Items.{itemInFlight, mark, unmark, unmarkAll}
 use Rattle.model.specs.Doorbell.{bitOf, mapBits, manyBit, announces, descriptor, clearsBit, clears, noticedPage}
-use Rattle.model.specs.Registers.{kindOf, isRead, isWrite, isBoth, registerValue, endedAt, ended, endedLevelAt, endedLevel}
-use Rattle.model.specs.Requests.{writeValue, requestOf, forget, serve, callVerdict}
-use Rattle.model.specs.Events.{notice, call, entry, nonDelivery, handBack, at, Bytes, handed, offer, present, entered, giveBack, undelivered, emptied}
-use Rattle.model.specs.Events.{vcpuVerdict, verdict, callEffect, effect, concluded, step, next}
+use Rattle.model.specs.Registers.{class, pprOf, ppr, kindOf, isRead, isWrite, isBoth, registerValue, endedAt, ended, endedLevelAt, endedLevel}
+use Rattle.model.specs.Requests.{bad, registration, readBy, writeBy, writeValue, nameable, permission, requestOf, forget, serve, callVerdict}
+use Rattle.model.specs.Ipi.{icrLegal}
+use Rattle.model.specs.Events.{notice, call, entry, nonDelivery, handBack, at, Bytes, handed, offerHighest, offerWith, offer, present, entered, giveBack, undelivered, emptied}
+use Rattle.model.specs.Events.{vcpuVerdict, verdict, callEffect, effect, resultFor, concluded, step, next}
 use Rattle.model.specs.Touches.{Field, allowed, irr, isr, irrLevel, isrLevel, nmi, machineCheck, tpr, icr, phase, flight, summary, setIn}
-use Rattle.model.specs.Moves.{Served, Requeued, noticeBit, Moves}
-use Rattle.vector_set.specs.Sets.{has, highest}
+use Rattle.model.specs.Moves.{Served, Requeued, noticeBit, tells, Moves}
+use Rattle.vector_set.specs.Bits.{bitAt}
+use Rattle.vector_set.specs.Sets.{has, highest, isVector}
+use Rattle.vector_set.specs.Summaries.{inMarked}
 use Rattle.vector_set.proofs.BitLaws.{bit-zero}
-use Rattle.vector_set.proofs.Laws.{clash, has-collect, has-insert, has-remove, has-empty}
+use Rattle.vector_set.proofs.Laws.{clash, has-collect, has-insert, has-remove, has-empty, highest-above, highest-none}
 use Rattle.model.proofs.Bytes.{mapBits-length, mapBits-bit, spliced, spliced-length, spliced-before, spliced-after, written-is}
 use Rattle.model.proofs.Stored.{stored-at, by-verdict, known-of}
 use Rattle.model.proofs.ItemLaws.{unmarkAll-is}
@@ -77,6 +83,85 @@ returned m i r x l f =
     (λ c h e. clash (cc))
     (λ h e. rw (stored-at m i (m .registrations) (undelivered (itemInFlight (v .flight)) v) (known-of m i nonDelivery h .there))
     (subst (λ o. Requeued x v (undelivered o v)) (sym (ap itemInFlight f)) (returned-in x l v)))
+
+return-gives : (m : Module) (i r : ℕ) → step m (at i nonDelivery) .result ≡ done r → r ≡ 0
+unfolding concluded effect
+return-gives m i r = by-verdict m (at i nonDelivery) (λ o. o .result ≡ done r → r ≡ 0) (λ c h e. clash (cc)) (λ h e. number-of (sym e))
+
+-- ---- the class of what is presented
+-- a vector that an entry answers is above the PPR
+above : (x : ℕ) (iF sh bl : Bool) (v : Vcpu) → offer iF sh bl v ≡ presents (Vector x) → leb (class x) (class (ppr v)) ≡ false
+unfolding offer offerWith offerHighest
+above x iF sh bl v = first (v .«machine_check»)
+  where
+    over : (a b : Bool) (y : ℕ) → leb (class y) (class (ppr v)) ≡ a → cond a nothing (cond b (presents (Vector y)) (window y)) ≡ presents (Vector x)
+        → leb (class x) (class (ppr v)) ≡ false
+    over true b y p e = clash (cc)
+    over false true y p e = let q : y ≡ x = cc in rw q at p
+    over false false y p e = clash (cc)
+
+    high : (o : Option ℕ) → offerHighest (iF && not sh) (ppr v) o ≡ presents (Vector x) → leb (class x) (class (ppr v)) ≡ false
+    high none e = clash (cc)
+    high (some y) e = over (leb (class y) (class (ppr v))) (iF && not sh) y refl e
+
+    second : (b : Bool) → cond b (presents Nmi) (offerHighest (iF && not sh) (ppr v) (highest (inMarked (v .summary) (v .irr)))) ≡ presents (Vector x)
+        → leb (class x) (class (ppr v)) ≡ false
+    second true e = clash (cc)
+    second false e = high (highest (inMarked (v .summary) (v .irr))) e
+
+    first : (b : Bool)
+        → cond b (presents MachineCheck)
+        (cond (v .nmi && not (sh || bl)) (presents Nmi) (offerHighest (iF && not sh) (ppr v) (highest (inMarked (v .summary) (v .irr))))) ≡ presents (Vector x)
+        → leb (class x) (class (ppr v)) ≡ false
+    first true e = clash (cc)
+    first false e = second (v .nmi && not (sh || bl)) e
+
+-- the PPR is in the higher class of the TPR and what is in service
+class-ppr : (t s : ℕ) → (t / 16 ≤ pprOf t s / 16) × (s / 16 ≤ pprOf t s / 16)
+unfolding pprOf
+class-ppr t s = pick (leb (s / 16) (t / 16)) refl
+  where
+    pick : (b : Bool) → leb (s / 16) (t / 16) ≡ b → (t / 16 ≤ cond b t (16 * (s / 16)) / 16) × (s / 16 ≤ cond b t (16 * (s / 16)) / 16)
+    pick true e = (omega arith, leb-true (s / 16) (t / 16) e)
+    pick false e = let h = leb-false (s / 16) (t / 16) e in (omega (arith, h), omega arith)
+
+by-offer : (m : Module) (i : ℕ) (iF sh bl : Bool) (x : ℕ) → step m (at i (entry iF sh bl)) .result ≡ answers (presents (Vector x))
+    → offer iF sh bl (vcpuAt m i) ≡ presents (Vector x)
+unfolding concluded effect
+by-offer m i iF sh bl x =
+    by-verdict m (at i (entry iF sh bl)) (λ o. o .result ≡ answers (presents (Vector x)) → offer iF sh bl (vcpuAt m i) ≡ presents (Vector x))
+    (λ c h e. clash (cc)) (λ h e. same-answer e)
+
+above-tpr : (m : Module) (i : ℕ) (iF sh bl : Bool) (x : ℕ) → step m (at i (entry iF sh bl)) .result ≡ answers (presents (Vector x))
+    → vcpuAt m i .tpr / 16 < x / 16
+unfolding ppr
+above-tpr m i iF sh bl x e =
+    let v = vcpuAt m i in
+    let a = leb-false (class x) (class (ppr v)) (above x iF sh bl v (by-offer m i iF sh bl x e)) in
+    let b = class-ppr (v .tpr) (Option·getD (highest (v .isr)) 0) .0 in
+    omega (arith, a, b)
+
+-- a member is at most the highest
+below-highest : (s : List ℕ) (y : ℕ) → y < 256 → has s y ≡ true → y ≤ Option·getD (highest s) 0
+below-highest s y l h = pick (highest s) refl
+  where
+    pick : (o : Option ℕ) → highest s ≡ o → y ≤ Option·getD o 0
+    pick none e = let z = highest-none s e y l in clash (cc)
+    pick (some x) e = low (ltb x y) refl
+      where
+        low : (b : Bool) → ltb x y ≡ b → y ≤ x
+        low true q = let z = highest-above s x e y l (ltb-true x y q) in clash (cc)
+        low false q = ltb-false x y q
+
+above-served : (m : Module) (i : ℕ) (iF sh bl : Bool) (x y : ℕ) → step m (at i (entry iF sh bl)) .result ≡ answers (presents (Vector x)) → y < 256
+    → has (vcpuAt m i .isr) y ≡ true → y / 16 < x / 16
+unfolding ppr
+above-served m i iF sh bl x y e l h =
+    let v = vcpuAt m i in
+    let a = leb-false (class x) (class (ppr v)) (above x iF sh bl v (by-offer m i iF sh bl x e)) in
+    let b = class-ppr (v .tpr) (Option·getD (highest (v .isr)) 0) .1 in
+    let c = below-highest (v .isr) y l h in
+    omega (arith, a, b, c)
 
 -- ---- a call that touches its own record alone
 -- the record and the number that an accepted one gives, by its request
@@ -226,6 +311,84 @@ notice-clears : (m : Module) (i : ℕ) (p : Bytes) (k : ℕ) → k < 8 * length 
 notice-clears m i p k h z =
     by-page m i p (λ q. bitOf q k ≡ false) z (page-bit (m .vmpl) p k h (λ b. b ≡ false) z (rw z))
 
+notice-quiet : (m : Module) (i : ℕ) (p : Bytes) → bitOf p (23 + m .vmpl) ≡ false → step m (at i (notice p)) .page ≡ p
+unfolding noticedPage announces
+notice-quiet m i p h = by-page m i p (λ q. q ≡ p) refl (let e : 8 * 2 + (7 + m .vmpl) ≡ 23 + m .vmpl = omega arith in rw (e, h))
+
+-- ---- the number of a call
+-- what a request gives where it tells nothing
+abbrev Quiet : Request → Type 0
+Quiet (request.Local o) = (i k : ℕ) (v : Vcpu) → serve o i k v .value ≡ 0
+Quiet (request.Icr x) = ⊥
+Quiet (request.Refused c) = Unit {0}
+
+quiet-write : (c x : ℕ) → (eqb c 0x80B || eqb c 0x83F || eqb c 0x830) ≡ false → Quiet (writeValue c x)
+unfolding writeValue serve
+quiet-write c x h = pick (eqb c 0x80B) (eqb c 0x83F) (eqb c 0x808) (eqb c 0x830) (leb x 255) h
+  where
+    pick : (a b d e t : Bool) → (a || b || e) ≡ false
+        → Quiet (cond a (cond (eqb x 0) (request.Local local.Eoi) bad)
+        (cond b (cond (isVector x) (request.Local (local.SelfIpi x)) bad)
+        (cond d (cond t (request.Local (local.SetTpr x)) bad)
+        (cond e (cond (icrLegal x) (request.Icr x) bad) (request.Refused BadRegister)))))
+    pick true b d e t h = clash (cc)
+    pick false true d e t h = clash (cc)
+    pick false false true e true h = λ i k v. refl
+    pick false false true e false h = tt
+    pick false false false true t h = clash (cc)
+    pick false false false false t h = tt
+
+quiet-kind : (κ : Kind) (c x : ℕ) → (eqb c 0x80B || eqb c 0x83F || eqb c 0x830) ≡ false → Quiet (writeBy κ c x)
+quiet-kind kind.None c x h = tt
+quiet-kind kind.Read c x h = tt
+quiet-kind kind.Write c x h = quiet-write c x h
+quiet-kind kind.Both c x h = quiet-write c x h
+
+quiet-registration : (c : ℕ) → Quiet (registration c)
+unfolding registration serve
+quiet-registration c = pick (eqb c 0) (eqb c 1) (eqb c 2)
+  where
+    pick : (a b d : Bool)
+        → Quiet (cond a (request.Local local.Leave) (cond b (request.Local local.Release) (cond d (request.Local local.Register) bad)))
+    pick true b d = λ i k v. refl
+    pick false true d = λ i k v. refl
+    pick false false true = λ i k v. refl
+    pick false false false = tt
+
+quiet-permission : (c : ℕ) → Quiet (permission c)
+unfolding permission serve
+quiet-permission c = pick (nameable c) (bitAt c 8)
+  where
+    pick : (a b : Bool) → Quiet (cond a (cond b (request.Local (local.Allow (c % 256))) (request.Local (local.Disallow (c % 256)))) bad)
+    pick true true = λ i k v. refl
+    pick true false = λ i k v. refl
+    pick false b = tt
+
+quiet-call : (op c x : ℕ) → tells op c ≡ false → Quiet (requestOf op c x)
+unfolding requestOf serve
+quiet-call op c x h = pick (eqb op 0) (eqb op 1) (eqb op 2) (eqb op 3) (eqb op 4) h
+  where
+    pick : (a b d e f : Bool) → (d || (e && (eqb c 0x80B || eqb c 0x83F || eqb c 0x830))) ≡ false
+        → Quiet (cond a (request.Local local.Features)
+        (cond b (registration c)
+        (cond d (readBy (kindOf c) c) (cond e (writeBy (kindOf c) c x) (cond f (permission c) (request.Refused UnknownCall))))))
+    pick true b d e f h = λ i k v. refl
+    pick false true d e f h = quiet-registration c
+    pick false false true e f h = clash (cc)
+    pick false false false true f h = quiet-kind (kindOf c) c x h
+    pick false false false false true h = quiet-permission c
+    pick false false false false false h = tt
+
+call-gives : (m : Module) (i op c x r : ℕ) → tells op c ≡ false → step m (at i (call op c x)) .result ≡ done r → r ≡ 0
+unfolding concluded effect callEffect
+call-gives m i op c x r t =
+    by-verdict m (at i (call op c x)) (λ o. o .result ≡ done r → r ≡ 0) (λ c h e. clash (cc)) (λ h e. told (requestOf op c x) (quiet-call op c x t) e)
+  where
+    told : (q : Request) → Quiet q → resultFor (callEffect q i (m .registrations) (vcpuAt m i) .reply) i m ≡ done r → r ≡ 0
+    told (request.Local o) z e = number-of (sym e ∙ ap done (z i (m .registrations) (forget (vcpuAt m i))))
+    told (request.Icr y) z e = absurd z
+    told (request.Refused d) z e = clash (cc)
+
 -- ---- the page of a hand-back
 -- an accepted one has room for its 64 bytes
 by-written : (m : Module) (i : ℕ) (p : Bytes) (iF sh : Bool) (P : Bytes → Type 0) → P p
@@ -261,7 +424,10 @@ pub moves : Moves
 moves =
     record {
       presented = presented-in;
+      aboveTpr = above-tpr;
+      aboveServed = above-served;
       returned = returned;
+      returnGives = return-gives;
       ended = ended-some;
       endedNone = ended-none;
       handedBack = handed-back;
@@ -270,6 +436,8 @@ moves =
       idReads = id-reads;
       tprReads = tpr-reads;
       icrReads = icr-reads-as-is;
+      callGives = call-gives;
+      noticeQuiet = notice-quiet;
       noticeLength = λ m i p. by-page m i p (λ q. length q ≡ length p) refl (page-length (m .vmpl) p);
       noticeKeeps = notice-keeps;
       noticeClears = notice-clears;

@@ -1,9 +1,9 @@
--- Where the vector that an event moves ends, what a write stores and a read gives, and what is left of a page (13.119 to 13.123). Of every module value.
+-- Where the vector that an event moves ends, what a write stores and a read gives, and what is left of a page (13.119 to 13.125). Of every module value.
 -- Assumes nothing.
 use mathlib.Core.Path.{_≡_}
-use mathlib.Core.Bool.{Bool, true, false, cond, _||_}
+use mathlib.Core.Bool.{Bool, true, false, cond, _&&_, _||_}
 use mathlib.Core.Option.{none, some}
-use Prim.Native.Nat.{ℕ, _+_, _*_, _<_, _≤_}
+use Prim.Native.Nat.{ℕ, _+_, _*_, _/_, _<_, _≤_}
 use lib.Dec.{eqb}
 use lib.ListN.{length, getD}
 use Rattle.model.specs.declared.InFlight.the-variants as flight
@@ -32,11 +32,21 @@ Requeued x v w =
 abbrev pub noticeBit : ℕ → ℕ → Bool
 noticeBit l k = eqb k (23 + l) || within (512 * l) (512 * l + 255) k
 
+-- a call whose answer tells something: call 2, and a write of EOI, self-IPI or ICR (5.23, 6.26, 7.20, 7.22)
+abbrev pub tells : ℕ → ℕ → Bool
+tells op c = eqb op 2 || (eqb op 3 && (eqb c 0x80B || eqb c 0x83F || eqb c 0x830))
+
 pub record Moves : Type 0 where
   -- an entry that presents a vector (13.119)
   pub presented : (m : Module) (i : ℕ) (iF sh bl : Bool) (x : ℕ) → x < 256 → step m (at i (entry iF sh bl)) .result ≡ answers (presents (Vector x))
       → Served x (vcpuAt m i) (vcpuAt (next m (at i (entry iF sh bl))) i)
-  -- a non-delivery that returns one (13.119)
+  -- its class is above that of the TPR and of all that is in service (13.124)
+  pub aboveTpr : (m : Module) (i : ℕ) (iF sh bl : Bool) (x : ℕ) → step m (at i (entry iF sh bl)) .result ≡ answers (presents (Vector x))
+      → vcpuAt m i .tpr / 16 < x / 16
+  pub aboveServed : (m : Module) (i : ℕ) (iF sh bl : Bool) (x y : ℕ) → step m (at i (entry iF sh bl)) .result ≡ answers (presents (Vector x)) → y < 256
+      → has (vcpuAt m i .isr) y ≡ true → y / 16 < x / 16
+  -- a non-delivery that returns one; it gives 0 (13.119)
+  pub returnGives : (m : Module) (i r : ℕ) → step m (at i nonDelivery) .result ≡ done r → r ≡ 0
   pub returned : (m : Module) (i r x : ℕ) → x < 256 → vcpuAt m i .flight ≡ flight.Vector x → step m (at i nonDelivery) .result ≡ done r
       → Requeued x (vcpuAt m i) (vcpuAt (next m (at i nonDelivery)) i)
   -- an EOI: with x the highest in service, and with nothing there (13.120)
@@ -54,7 +64,11 @@ pub record Moves : Type 0 where
   pub idReads : (m : Module) (i z r : ℕ) → step m (at i (call 2 0x802 z)) .result ≡ done r → r ≡ i
   pub tprReads : (m : Module) (i z r : ℕ) → step m (at i (call 2 0x808 z)) .result ≡ done r → r ≡ vcpuAt m i .tpr
   pub icrReads : (m : Module) (i z r : ℕ) → step m (at i (call 2 0x830 z)) .result ≡ done r → r ≡ vcpuAt m i .icr
+  -- an accepted call gives 0 unless it is a read, an EOI or an IPI (13.125)
+  pub callGives : (m : Module) (i op c x r : ℕ) → tells op c ≡ false → step m (at i (call op c x)) .result ≡ done r → r ≡ 0
   -- ---- of a page, accepted or not
+  -- a notice that announces nothing leaves its page (13.123)
+  pub noticeQuiet : (m : Module) (i : ℕ) (p : Bytes) → bitOf p (23 + m .vmpl) ≡ false → step m (at i (notice p)) .page ≡ p
   -- a notice keeps its length and every bit but those of its VMPL, and sets none (13.123)
   pub noticeLength : (m : Module) (i : ℕ) (p : Bytes) → length (step m (at i (notice p)) .page) ≡ length p
   pub noticeKeeps : (m : Module) (i : ℕ) (p : Bytes) (k : ℕ) → k < 8 * length p → noticeBit (m .vmpl) k ≡ false

@@ -32,8 +32,8 @@ pub record Ruled (v : Vcpu) : Type 0 where
 abbrev pub InService : Vcpu → Type 0
 InService v = (x : ℕ) → v .flight ≡ flight.Vector x → has (v .isr) x ≡ true
 
--- what holds of each record: what a saved state is to be held to, `ruled` and `inService` (02, A11), and what is true besides where events reach it. Only
--- all of it together stays so: of a vCPU that is leaving with its vector in flight a hand-back empties S (13.13 to 13.16, 13.76)
+-- what holds of each record: what a saved state is to be held to, `ruled` and `inService` (02, A11), and what is true besides where events reach it.
+-- `inService` stays by the rest alone: of a vCPU that is leaving with its vector in flight a hand-back empties S (13.13 to 13.16, 13.76)
 pub record Sound (v : Vcpu) : Type 0 where
   pub ruled : Ruled v
   pub inService : InService v

@@ -11,7 +11,7 @@ use Rattle.model.specs.declared.Item.the-variants.{Nmi, MachineCheck, Ve
 use Rattle.model.specs.declared.Vcpu.{Vcpu}
 use Rattle.model.specs.declared.Module.{Module}
 use Rattle.model.specs.declared.InFlight.the-variants as inFlight
-use Rattle.model.specs.State.{absent, vcpuAt, withFlight}
+use Rattle.model.specs.State.{absent, vcpuAt, withIsr, withFlight}
 use Rattle.model.specs.Codes.{presentedBy}
 use Rattle.model.specs.Items.{isItem, itemInFlight}
 use Rattle.model.specs.Doorbell.{inPart, admitted}
@@ -176,13 +176,19 @@ actTouches l v o (allow cs q) = only (flight ∷ allowed ∷ []) (names cs)
 abbrev pub touches : Module → Event → Touched
 touches m e = actTouches (m .vmpl) (vcpuAt m (e .vcpu)) (presentedBy (step m e .result)) (e .act)
 
--- ---- the table itself, written out: of a row the fields by their numbers, those of the own record, then those of others, and the count
+-- ---- the table itself, written out: of a row the fields by their numbers, those of the own record, then those of others; the count; whether 0x41 and
+-- whether 0x42 may move
 abbrev pub fieldBits : List Field → ℕ
 fieldBits [] = 0
 fieldBits (f ∷ fs) = 2 ^ place f + fieldBits fs
 
 abbrev pub rowBits : Touched → ℕ
-rowBits t = fieldBits (t .own) + 2 ^ 12 * fieldBits (t .others) + 2 ^ 24 * one (t .count)
+rowBits t =
+    fieldBits (t .own) + 2 ^ 12 * fieldBits (t .others) + 2 ^ 24 * one (t .count) + 2 ^ 25 * one (t .vectors 0x41) + 2 ^ 26 * one (t .vectors 0x42)
+
+-- a record with 0x41 in service and in flight
+abbrev sample : Vcpu
+sample = withFlight (inFlight.Vector 0x41) (withIsr (0 ∷ 0 ∷ 2 ∷ 0 ∷ 0 ∷ 0 ∷ 0 ∷ 0 ∷ []) absent)
 
 -- a bit for each of A, P, S, PL, SL, the two marks, TPR, ICR, phase, in flight and the byte, in this order (13.108)
 unfoldable pub rows : List ℕ
@@ -194,7 +200,7 @@ rows =
     ∷ rowBits (actTouches 1 absent none (call 1 2 0))
     ∷ rowBits (actTouches 1 absent none (call 1 3 0))
     ∷ rowBits (actTouches 1 absent none (call 2 0x808 0))
-    ∷ rowBits (actTouches 1 absent none (call 3 0x80B 0))
+    ∷ rowBits (actTouches 1 sample none (call 3 0x80B 0))
     ∷ rowBits (actTouches 1 absent none (call 3 0x83F 0x41))
     ∷ rowBits (actTouches 1 absent none (call 3 0x808 0))
     ∷ rowBits (actTouches 1 absent none (call 3 0x830 0x4041))
@@ -208,17 +214,17 @@ rows =
     ∷ rowBits (actTouches 1 absent (some (Vector 0x41)) (entry true false false))
     ∷ rowBits (actTouches 1 (withFlight inFlight.Nmi absent) none nonDelivery)
     ∷ rowBits (actTouches 1 (withFlight inFlight.MachineCheck absent) none nonDelivery)
-    ∷ rowBits (actTouches 1 (withFlight (inFlight.Vector 0x41) absent) none nonDelivery)
+    ∷ rowBits (actTouches 1 sample none nonDelivery)
     ∷ rowBits (actTouches 1 absent none (handBack [] true false))
-    ∷ rowBits (actTouches 1 absent none (allow [] []))
+    ∷ rowBits (actTouches 1 absent none (allow (0x141 ∷ []) []))
     ∷ []
 
 -- ---- the claim, of every module value and event: what the table does not name is as before
 pub record LeavesAlone : Type 0 where
   -- the table, and that no record has more fields than it speaks of (13.108)
   pub table : rows
-      ≡ (0x86A ∷ 0x400 ∷ 0x600 ∷ 0x100_0600 ∷ 0x100_0400 ∷ 0 ∷ 0x400 ∷ 0x414 ∷ 0xC02 ∷ 0x480 ∷ 0x80_2D02 ∷ 0x2_0520 ∷ 0 ∷ 0x401 ∷ 0 ∷ 0x400 ∷ 0x420
-      ∷ 0x440 ∷ 0xC1E ∷ 0x420 ∷ 0x440 ∷ 0xC1E ∷ 0xA7F ∷ 0x401 ∷ [])
+      ≡ (0x86A ∷ 0x400 ∷ 0x600 ∷ 0x100_0600 ∷ 0x100_0400 ∷ 0 ∷ 0x400 ∷ 0x200_0414 ∷ 0x200_0C02 ∷ 0x480 ∷ 0x280_2D02 ∷ 0x2_0520 ∷ 0 ∷ 0x200_0401 ∷ 0 ∷ 0x400
+      ∷ 0x420 ∷ 0x440 ∷ 0x200_0C1E ∷ 0x420 ∷ 0x440 ∷ 0x200_0C1E ∷ 0x600_0A7F ∷ 0x200_0401 ∷ [])
   pub whole : (u v : Vcpu) → ((f : Field) → Same f u v) → u ≡ v
   -- of the record of its vCPU, a field (13.108)
   pub ownField : (m : Module) (e : Event) (f : Field) → listed (touches m e .own) f ≡ false → Same f (vcpuAt (next m e) (e .vcpu)) (vcpuAt m (e .vcpu))

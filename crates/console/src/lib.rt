@@ -1,12 +1,14 @@
-// Standard input and output of the programs that play a trace: the next event, and the line of its answer.
+// What the programs that play a trace share: where they stand in their input, the line that is kept, its event, and the parts that are lent to the events.
+// Nothing here reads or writes a descriptor.
 pub mod input;
-pub mod output;
-pub mod report;
 
+ghost use mathlib.Core.Path.{_≡_};
+ghost use lib.ListN.{take, replicate};
+ghost use lib.ListN.{length as ListN·length};
+ghost use Rattle.console.specs.Sessions.{begun};
 use model::Admission;
 use model::Outcome;
 use model::Presentation;
-use output::Sink;
 
 // The bytes that are read or written at once.
 pub const CHUNK_BYTES: usize = 65536;
@@ -27,6 +29,12 @@ pub type PageRoom = [u8; PAGE_ROOM];
 pub const LIST_ROOM: usize = 1024;
 
 pub type ListRoom = [u32; LIST_ROOM];
+
+// How full the buffer of the output is, and whether a write has failed. Nothing is written after that.
+pub struct Sink {
+    pub at: usize,
+    pub lost: bool,
+}
 
 // Where a program stands: the bytes of the chunk that are not read yet, how many bytes of the present line are kept and whether
 // it has ended, how many lines have ended, how full the output is, and whether the program goes on.
@@ -49,7 +57,9 @@ pub enum Answer {
     Asked(bool),
 }
 
-pub fn begin() -> Session {
+pub fn begin() -> Session
+    ensures { λ r. ⌜ r ≡ begun ⌝ }
+{
     Session {
         from: 0,
         to: 0,
@@ -62,7 +72,10 @@ pub fn begin() -> Session {
 }
 
 // The first `length` bytes of a page, or all where it has no more.
-pub fn front(page: &mut [u8], length: usize) -> &mut [u8] {
+pub fn front(page: &mut [u8], length: usize) -> &mut [u8]
+    ensures { λ r. ⌜ now r ≡ take length (now (page .entry)) ⌝ }
+    ensures { λ r. ⌜ r .ptr ≡ page .entry .ptr ⌝ }
+{
     if length < page.len() {
         return &mut page[..length];
     }
@@ -70,7 +83,9 @@ pub fn front(page: &mut [u8], length: usize) -> &mut [u8] {
 }
 
 // The first `count` values, or all where there are no more.
-pub fn first_values(values: &[u32], count: usize) -> &[u32] {
+pub fn first_values(values: &[u32], count: usize) -> &[u32]
+    ensures { λ r. ⌜ now r ≡ take count (now (values .entry)) ⌝ }
+{
     if count < values.len() {
         return &values[..count];
     }
@@ -78,7 +93,10 @@ pub fn first_values(values: &[u32], count: usize) -> &[u32] {
 }
 
 // Sets each code to `fill`. Gives the first `length`, or all where there are no more.
-pub fn blank_codes(codes: &mut [u32], length: usize, fill: u32) -> &mut [u32] {
+pub fn blank_codes(codes: &mut [u32], length: usize, fill: u32) -> &mut [u32]
+    ensures { λ r. ⌜ now r ≡ take length (replicate (ListN·length (now (codes .entry))) fill) ⌝ }
+    ensures { λ r. ⌜ r .ptr ≡ codes .entry .ptr ⌝ }
+{
     let mut i = 0;
     while i < codes.len() {
         codes[i] = fill;

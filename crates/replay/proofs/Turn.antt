@@ -1,7 +1,7 @@
 -- The calls of a turn of `replay::run`: what is lent comes back, at bytes, numbers and a module of which nothing is said.
 --     Bytes, Words                 a buffer of bytes, and one of numbers
 --     Buffers, Refs                the six buffers; [the chunk; its token; the line; ..; the page; ..; the values; ..; the codes; ..; the output; its token]
---     advances, reads, reports     the calls of `console::input::advance`, `console::input::next_event` and `console::report::report`. The operands read the
+--     advances, reads, reports     the calls of `descriptors::advance`, `console::input::next_event` and `descriptors::report`. The operands read the
 --               locals Γ alone
 --     plays                        the call of `replay::play`, with the module lent from its local
 -- Assumes `Given`, and `FmC` of the table of calls.
@@ -40,12 +40,12 @@ use Rattle.console.proofs.Answer.Laws as N′
 use Rattle.console.specs.declared.Session.{Session}
 use Rattle.console.proofs.Session as S
 use Rattle.console.proofs.Session.Laws as S′
-use Rattle.console.proofs.input.advance as advance
-use Rattle.console.proofs.input.advance.Symbol.{name as #advance}
+use Rattle.replay.proofs.descriptors.advance as advance
+use Rattle.replay.proofs.descriptors.advance.Symbol.{name as #advance}
 use Rattle.console.proofs.input.next_event as reading
 use Rattle.console.proofs.input.next_event.Symbol.{name as #reading}
-use Rattle.console.proofs.report.report as report
-use Rattle.console.proofs.report.report.Symbol.{name as #report}
+use Rattle.replay.proofs.descriptors.report as report
+use Rattle.replay.proofs.descriptors.report.Symbol.{name as #report}
 use Rattle.replay.proofs.play as play
 use Rattle.replay.proofs.play.Symbol.{name as #play}
 use Rattle.gate_mut.proofs.Lens.{machM}

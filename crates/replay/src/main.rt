@@ -1,4 +1,6 @@
 // Plays the trace on standard input on one module, in place, and prints a line for each event.
+mod descriptors;
+
 use console::Answer;
 use console::Chunk;
 use console::LINE_ROOM;
@@ -9,9 +11,9 @@ use console::PageRoom;
 use console::blank_codes;
 use console::first_values;
 use console::front;
-use console::input::advance;
 use console::input::next_event;
-use console::report::report;
+use descriptors::advance;
+use descriptors::report;
 use gate_mut_allow::allow_in;
 use gate_mut_calls::call_in;
 use gate_mut_entries::entry_in;

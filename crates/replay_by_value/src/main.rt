@@ -1,4 +1,6 @@
 // Plays the trace on standard input on one module by value: what `replay` does in place, and it prints the same.
+mod descriptors;
+
 use console::Answer;
 use console::Chunk;
 use console::LINE_ROOM;
@@ -9,9 +11,9 @@ use console::PageRoom;
 use console::blank_codes;
 use console::first_values;
 use console::front;
-use console::input::advance;
 use console::input::next_event;
-use console::report::report;
+use descriptors::advance;
+use descriptors::report;
 use model::Entered;
 use model::Module;
 use model::Noticed;

@@ -1,22 +1,35 @@
--- `console::blank_codes` is safe and ends: at each turn a code less is left, and the part is no longer than the list.
+-- `console::blank_codes` meets its contract: at each turn one code more is set, and the others are left.
 -- Assumes nothing.
-use mathlib.Core.Path.{_≡_, refl, sym, _∙_}
-use Prim.Native.Nat.{_≤_, _-_}
+use mathlib.Core.Path.{_≡_, refl, sym, ap, _∙_}
+use Prim.Native.Nat.{ℕ, _+_, _-_, _≤_, _<_}
+use native.Mathlib.Numerals.{add-one}
 use native.Mathlib.Omega.{arith}
-use lib.ListN.{length, length-set}
+use mathlib.Core.List.{List, [], _∷_, _++_}
+use lib.ListN.{length, take, set, replicate, length-set, length-replicate, replicate-append-replicate}
+use lib.Seq.{take-all, take-suc-set}
 use borrow.Table.Elements.{length-take-le}
 use borrow.Author.Needs.{needs}
 use Rattle.console.proofs.blank_codes.Statement.{statement}
 use Rattle.console.proofs.blank_codes.Tie as tie
 
 abbrev Inv-loop : tie.InvT-loop
-Inv-loop codes₀ long fill i₀ codes i = (length codes ≡ length codes₀) × (i ≤ length codes)
+Inv-loop codes₀ long fill i₀ codes i = (length codes ≡ length codes₀) × (i ≤ length codes) × (take i codes ≡ replicate i fill)
 
 abbrev μ-loop : tie.MeasureT-loop
 μ-loop codes₀ long fill i₀ codes i = length codes - i
 
+-- one more is set
+one-set : (l : List ℕ) (i x : ℕ) → i < length l → take i l ≡ replicate i x → take (i + 1) (set l i x) ≡ replicate (i + 1) x
+one-set l i x h e =
+    ap (λ (n : ℕ). take n (set l i x)) (add-one i) ∙ take-suc-set l i x h ∙ ap (λ (s : List ℕ). s ++ x ∷ []) e ∙ replicate-append-replicate i 1 x
+
+-- all are set
+all-set : (l : List ℕ) (i x n : ℕ) → take i l ≡ replicate i x → i ≤ length l → length l ≤ i → length l ≡ n → l ≡ replicate n x
+all-set l i x n e h g same =
+    let k : i ≡ n = omega (arith, h, g, same) in sym (take-all i l g) ∙ e ∙ ap (λ (m : ℕ). replicate m x) k
+
 loop-holds : tie.Need-loop-holds Inv-loop μ-loop
-loop-holds c = (refl, omega arith)
+loop-holds c = (refl, omega arith, refl)
 
 mul-codes : tie.Need-mul-codes Inv-loop μ-loop
 mul-codes c = search needs
@@ -32,16 +45,27 @@ loop-less c = let l = c .before .loop in omega (arith, length-set (l .codes) (l 
 
 loop-again : tie.Need-loop-again Inv-loop μ-loop
 loop-again c =
-    let l = c .before .loop in (length-set (l .codes) (l .i) _ ∙ l .inv .0, omega (arith, length-set (l .codes) (l .i) (c .before .before .args .fill)))
+    let l = c .before .loop in (
+      length-set (l .codes) (l .i) _ ∙ l .inv .0,
+      omega (arith, length-set (l .codes) (l .i) (c .before .before .args .fill)),
+      one-set (l .codes) (l .i) _ (c .loop-test .taken) (l .inv .2),
+    )
 
 slice-aggregate-result : tie.Need-slice-aggregate-result Inv-loop μ-loop
 slice-aggregate-result c = sym (length-take-le _ _ (omega arith))
 
 returns : tie.Need-returns Inv-loop μ-loop
-returns c = search needs
+returns c =
+    let l = c .before .before .before .loop in
+    let e = all-set (l .codes) (l .i) _ _ (l .inv .2) (l .inv .1) (c .before .before .loop-test .left) (l .inv .0) in
+    (ap (take (c .before .before .before .before .args .length)) e, refl)
 
 returns-2 : tie.Need-returns-2 Inv-loop μ-loop
-returns-2 c = search needs
+returns-2 c =
+    let l = c .before .before .loop in
+    let a = c .before .before .before .args in
+    let e = all-set (l .codes) (l .i) _ _ (l .inv .2) (l .inv .1) (c .before .loop-test .left) (l .inv .0) in
+    (sym (take-all (a .length) (l .codes) (c .if1 .left)) ∙ ap (take (a .length)) e, refl)
 
 pub blank-codes-spec : {M : Type 1} → statement M
 blank-codes-spec =

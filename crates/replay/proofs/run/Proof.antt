@@ -44,18 +44,18 @@ use Rattle.console.proofs.begin as begin
 use Rattle.console.proofs.begin.Symbol as begin-def
 use Rattle.console.proofs.begin.Symbol.{name as #begin}
 use Rattle.console.proofs.begin.Met as begin-thm
-use Rattle.console.proofs.input.advance as advance
-use Rattle.console.proofs.input.advance.Symbol as advance-def
-use Rattle.console.proofs.input.advance.Symbol.{name as #advance}
-use Rattle.console.proofs.input.advance.Met as advance-thm
+use Rattle.replay.proofs.descriptors.advance as advance
+use Rattle.replay.proofs.descriptors.advance.Symbol as advance-def
+use Rattle.replay.proofs.descriptors.advance.Symbol.{name as #advance}
+use Rattle.replay.proofs.descriptors.advance.Met as advance-thm
 use Rattle.console.proofs.input.next_event as reading
 use Rattle.console.proofs.input.next_event.Symbol as reading-def
 use Rattle.console.proofs.input.next_event.Symbol.{name as #reading}
 use Rattle.console.proofs.input.next_event.Met as reading-thm
-use Rattle.console.proofs.report.report as report
-use Rattle.console.proofs.report.report.Symbol as report-def
-use Rattle.console.proofs.report.report.Symbol.{name as #report}
-use Rattle.console.proofs.report.report.Met as report-thm
+use Rattle.replay.proofs.descriptors.report as report
+use Rattle.replay.proofs.descriptors.report.Symbol as report-def
+use Rattle.replay.proofs.descriptors.report.Symbol.{name as #report}
+use Rattle.replay.proofs.descriptors.report.Met as report-thm
 use Rattle.replay.proofs.play as play
 use Rattle.replay.proofs.play.Symbol as play-def
 use Rattle.replay.proofs.play.Symbol.{name as #play}
@@ -358,10 +358,10 @@ run-spec 𝓤 H 𝓜 𝓖 𝓡 =
     (cited 𝓤 H (tripleOf 𝓤 H (𝓖 .A) begin.signature (begin.spec 𝓤 H (𝓖 .A) (𝓜 .mem) (𝓡 .run))) 𝓜 𝓡 code.env #begin begin-def.routine code.calls-console·begin
     (begin-thm.met 𝓤 H 𝓜 𝓖 𝓡))
     (cited 𝓤 H (tripleOf 𝓤 H (𝓖 .A) advance.signature (advance.spec 𝓤 H (𝓖 .A) (𝓜 .mem) (𝓡 .run))) 𝓜 𝓡 code.env #advance advance-def.routine
-    code.calls-console·input·advance (advance-thm.met 𝓤 H 𝓜 𝓖 𝓡))
+    code.calls-replay·descriptors·advance (advance-thm.met 𝓤 H 𝓜 𝓖 𝓡))
     (cited 𝓤 H (tripleOf 𝓤 H (𝓖 .A) reading.signature (reading.spec 𝓤 H (𝓖 .A) (𝓜 .mem) (𝓡 .run))) 𝓜 𝓡 code.env #reading reading-def.routine
     code.calls-console·input·next-event (reading-thm.met 𝓤 H 𝓜 𝓖 𝓡))
     (cited 𝓤 H (tripleOf 𝓤 H (𝓖 .A) play.signature (play.spec 𝓤 H (𝓖 .A) (𝓜 .mem) (𝓡 .run))) 𝓜 𝓡 code.env #play play-def.routine code.calls-replay·play
     (play-thm.met 𝓤 H 𝓜 𝓖 𝓡))
     (cited 𝓤 H (tripleOf 𝓤 H (𝓖 .A) report.signature (report.spec 𝓤 H (𝓖 .A) (𝓜 .mem) (𝓡 .run))) 𝓜 𝓡 code.env #report report-def.routine
-    code.calls-console·report·report (report-thm.met 𝓤 H 𝓜 𝓖 𝓡)))
+    code.calls-replay·descriptors·report (report-thm.met 𝓤 H 𝓜 𝓖 𝓡)))

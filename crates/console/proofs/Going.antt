@@ -124,10 +124,10 @@ module _ (line : List ℕ) (s : Session) where
   too-long e h = rw (e, lt-leb (s .kept) 65537 h)
 
   module _ {page values page′ values′ : List ℕ} where
-    pub event-read : (e : Event) → s .ended ≡ true → s .kept ≤ 65537 → e ≡ eventOf (take (s .kept) line) → PageIs (behindName line s) e page′
-        → ValuesAre (behindName line s) e values′ → (e ≡ nextEvent line s) × Beside line s e page values page′ values′
+    pub event-read : (e : Event) → e ≡ eventOf (take (s .kept) line) → PageIs (behindName line s) e page′ → ValuesAre (behindName line s) e values′
+        → s .ended ≡ true → s .kept ≤ 65537 → (e ≡ nextEvent line s) × Beside line s e page values page′ values′
     unfolding nextEvent
-    event-read e ends fits f p v =
+    event-read e f p v ends fits =
         let is = is-line ends fits in (
           f ∙ ap (λ (b : Bool). cond b (eventOf (take (s .kept) line)) Nothing) (sym is),
           record {

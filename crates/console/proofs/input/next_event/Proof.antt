@@ -18,7 +18,7 @@ returns : tie.Need-returns
 returns c =
     let t = c .before .before .before .before .before in
     let a = t .before .before .args in
-    let r = c .read .ensures in event-read (a .line .now) (a .session) _ (t .if1 .taken) (omega arith) (r .0) (r .1 .0) (r .1 .1)
+    let r = c .read .ensures in event-read (a .line .now) (a .session) _ (r .0) (r .1 .0) (r .1 .1) (t .if1 .taken) (omega arith)
 
 returns-2 : tie.Need-returns-2
 returns-2 c =

@@ -1,2 +1,4 @@
 pub mod Numerals
 pub mod Lines
+pub mod Room
+pub mod WorkedOutput

@@ -1,4 +1,4 @@
-//! The cases 14.98 to 14.105: the ID, the VMPLs 2 and 3, high vectors and a high TPR, words of registers, a vector that comes back where it was requested
+//! The cases 14.98 to 14.106, its destinations apart: ID and LDR, the VMPLs 2 and 3, high vectors and a high TPR, words of registers, a vector that comes back where it was requested
 //! otherwise meanwhile, and marks beside a level-sensitive vector that is not admitted.
 
 mod common;
@@ -58,13 +58,15 @@ fn hand_backs_at_vmpl_2_and_3() {
         let mut m = fresh(2, vmpl);
         let r = &mut m.records[0];
         r.pending = set(&[0x41]);
-        r.service = set(&[0x33]);
+        r.service = set(&[0x33, 0xF1]);
+        r.icr = u64::MAX;
         r.phase = Phase::Leaving;
         let mut p = vec![0xFF; 256];
         assert_eq!(hand_back(&mut m, 0, &mut p, true, false), Ok(result));
         let mut after = vec![0xFF; 256];
         after[at..at + 64].fill(0);
-        (after[at + 1], after[at + 8], after[at + 38]) = (0x40, 0x02, 0x08);
+        (after[at + 1], after[at + 8]) = (0x40, 0x02);
+        (after[at + 38], after[at + 62]) = (0x08, 0x02);
         assert_eq!(p, after);
     }
 }
@@ -135,6 +137,11 @@ fn marks_beside_a_level_vector_that_is_not_admitted() {
 /// 14.104
 #[test]
 fn high_vectors_and_a_high_tpr() {
+    for vector in [31, 255] {
+        let mut p = page(&[(3, 0x01), (64, vector)]);
+        let answer = notice(&mut allowing(&[usize::from(vector)]), 0, &mut p);
+        assert_eq!(answer, counted(1, 0));
+    }
     let mut m = allowing(&[0xF1]);
     let mut p = page(&[(3, 0x01), (64, 0xF1)]);
     assert_eq!(notice(&mut m, 0, &mut p), counted(1, 0));
@@ -177,4 +184,18 @@ fn words_of_registers() {
     }
     m.records[0].pending = set(&[0x23]);
     assert_eq!(read(&mut m, 0, 0x821), Ok(8));
+}
+
+/// 14.106
+#[test]
+fn ldr_and_ppr() {
+    for (vcpu, value) in [(0, 0x1), (15, 0x8000), (16, 0x10001), (31, 0x18000)] {
+        assert_eq!(read(&mut fresh(32, 1), vcpu, 0x80D), Ok(value));
+    }
+    for (tpr, service, value) in [(0x3F, &[0x41, 0x5F][..], 0x50), (0xE9, &[0xFF][..], 0xF0)] {
+        let mut m = fresh(2, 1);
+        m.records[0].tpr = tpr;
+        m.records[0].service = set(service);
+        assert_eq!(read(&mut m, 0, 0x80A), Ok(value));
+    }
 }

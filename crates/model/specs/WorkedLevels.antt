@@ -84,16 +84,13 @@ levels =
     ∷ sameNumbers (toldAt 2 0x02 128 .page) zeros
     ∷ isPresented 0x41 (resultOn (toldAt 2 0x02 128 .after) (enters true false false))
     ∷ counts 0 0 (toldAt 2 0x05 128 .result)
-    ∷ sameNumbers (toldAt 2 0x05 128 .page) (set (set zeros 3 0x05) 128 0x41)
     ∷ counts 0 0 (toldAt 2 0x07 192 .result)
     ∷ sameNumbers (toldAt 2 0x07 192 .page) (set (set zeros 3 0x05) 192 0x41)
     ∷ counts 1 0 (toldAt 3 0x04 192 .result)
     ∷ sameNumbers (toldAt 3 0x04 192 .page) zeros
     ∷ isPresented 0x41 (resultOn (toldAt 3 0x04 192 .after) (enters true false false))
     ∷ counts 0 0 (toldAt 3 0x03 192 .result)
-    ∷ sameNumbers (toldAt 3 0x03 192 .page) (set (set zeros 3 0x03) 192 0x41)
     ∷ counts 0 0 (toldAt 3 0x07 128 .result)
-    ∷ sameNumbers (toldAt 3 0x07 128 .page) (set (set zeros 3 0x03) 128 0x41)
     -- 14.100: a hand-back there
     ∷ gives 131073 (handedAt 2 .result)
     ∷ sameNumbers (handedAt 2 .page) (set (set (set (set (filled 128 0 64 ones) 129 0x40) 136 0x02) 166 0x08) 190 0x02)

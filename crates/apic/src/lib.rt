@@ -1,4 +1,6 @@
 // The values of the APIC's registers.
+#![tactic(auto)]
+
 ghost use Rattle.std.specs.Prelude.{◌≡◌, ◌<◌};
 ghost use Rattle.std.proofs.Math.Option.{get_or};
 ghost use Rattle.vector_set.specs.Sets.{highest, word_of};

@@ -1,5 +1,7 @@
 // What the programs that play a trace share: where they stand in their input, the line that is kept, its event, and the parts that are lent to the events.
 // Nothing here reads or writes a descriptor.
+#![tactic(auto)]
+
 pub mod input;
 
 ghost use Rattle.std.specs.Prelude.{◌≡◌, length as ListN·length, take, replicate};

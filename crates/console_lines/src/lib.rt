@@ -1,5 +1,7 @@
 // The lines that the programs print: the line of an event's answer, and the lines of a module's state (docs/REPLAY.md). They are put into a buffer; nothing
 // here writes a descriptor.
+#![tactic(auto)]
+
 mod answers;
 mod output;
 mod state;

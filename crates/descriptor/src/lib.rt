@@ -1,4 +1,6 @@
 // The descriptor: what its 32 bytes ask for and admit. Its marks are read apart, since most descriptors have none.
+#![tactic(auto)]
+
 ghost use Rattle.std.specs.Prelude.{◌≡◌, true, cond, not, ◌&&◌, ◌+◌, ◌*◌, ◌≤◌, ◌<◌, eqb, length, get_or};
 ghost use Rattle.std.specs.Int.Bits.{bit_and};
 ghost use Rattle.vector_set.specs.Bits.{bits};

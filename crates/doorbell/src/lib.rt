@@ -1,4 +1,6 @@
 // The doorbell page: what a host notice asks for, as `descriptor` reads it, and the page after it.
+#![tactic(auto)]
+
 ghost use Rattle.std.specs.Prelude.{◌≡◌, true, ◌<◌, ◌≤◌, length};
 ghost use Rattle.vector_set.specs.Sets.{collect};
 ghost use Rattle.model.specs.Doorbell.{bit_of, many_bit, announces, descriptor, admits_edge, noticed_page};

@@ -1,4 +1,6 @@
 // What the events by value and in place share: which vCPUs a module answers for, and the code of a refusal.
+#![tactic(auto)]
+
 ghost use Rattle.std.specs.Prelude.{◌≡◌, leb};
 ghost use Rattle.model.specs.Codes.{code_of};
 ghost use Rattle.model.specs.State.{served_count};

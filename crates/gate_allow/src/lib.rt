@@ -1,4 +1,6 @@
 // A list of ECX values by value: each is taken as call 4 takes it, on one vCPU's record.
+#![tactic(auto)]
+
 ghost use Rattle.std.specs.Prelude.{◌≡◌};
 ghost use Rattle.model.specs.Events.{Act, at, step, listed_out};
 

@@ -1,4 +1,6 @@
 // Guest calls by value: a step of the caller's record does the work, and an IPI goes to its targets.
+#![tactic(auto)]
+
 ghost use Rattle.std.specs.Prelude.{◌≡◌, []};
 ghost use Rattle.model.specs.Events.{Act, at, step, out_of};
 

@@ -1,4 +1,6 @@
 // Entry and non-delivery by value: the module goes in and comes back; a step of one record does the work. The question takes it and gives its answer.
+#![tactic(auto)]
+
 ghost use Rattle.std.specs.Prelude.{◌≡◌, []};
 ghost use Rattle.model.specs.Events.{Act, at, step, out_of, entered_out, would_present};
 

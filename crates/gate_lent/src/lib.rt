@@ -1,5 +1,7 @@
 // Each event on a module lent by `&mut`: a thin function that passes the module to the event by value and stores the one that comes back.
 // The question is lent it by `&`. The functions of `gate_mut_*` have the same contracts and work in place: they are for speed (docs/DECISIONS.md, Forms).
+#![tactic(auto)]
+
 ghost use Rattle.std.specs.Prelude.{◌≡◌, []};
 ghost use Rattle.model.specs.Events.{Act, at, step, do_start, out_of, entered_out, noticed_out, listed_out, would_present};
 

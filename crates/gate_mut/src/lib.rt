@@ -1,1 +1,2 @@
 // Proofs alone: the steps of which the walks of functions over `&mut Module` are made.
+#![tactic(auto)]

@@ -1,4 +1,6 @@
 // Guest calls on a module lent by `&mut`: the caller's record is stepped in place, and an IPI goes from record to record.
+#![tactic(auto)]
+
 ghost use Rattle.std.specs.Prelude.{◌≡◌, []};
 ghost use Rattle.model.specs.State.{size};
 ghost use Rattle.model.specs.Events.{Act, at, step, out_of};

@@ -1,4 +1,6 @@
 // Entry and non-delivery on a module lent by `&mut`, and the question whether an entry would present anything on one lent by `&`.
+#![tactic(auto)]
+
 ghost use Rattle.std.specs.Prelude.{◌≡◌, []};
 ghost use Rattle.model.specs.Events.{Act, at, step, out_of, entered_out, would_present};
 ghost use Rattle.vcpu_stages.specs.Stages.{settled};

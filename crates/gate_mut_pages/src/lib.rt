@@ -1,4 +1,6 @@
 // Notices and hand-backs on a module lent by `&mut`: the page is handled beside the step of one vCPU's record.
+#![tactic(auto)]
+
 ghost use Rattle.std.specs.Prelude.{◌≡◌};
 ghost use Rattle.model.specs.Events.{Act, at, step, out_of, noticed_out};
 

@@ -1,4 +1,6 @@
 // Start: the module that a guest begins with.
+#![tactic(auto)]
+
 ghost use Rattle.std.specs.Prelude.{◌≡◌, [], ◌≤◌};
 ghost use Rattle.model.specs.State.{bare, may_start, started, stopped};
 ghost use Rattle.model.specs.Events.{do_start, out_of};

@@ -1,4 +1,6 @@
 // The hand-back: the 64 bytes that a vCPU leaves to the host.
+#![tactic(auto)]
+
 ghost use Rattle.std.specs.Prelude.{◌≡◌, ◌+◌, ◌*◌, ◌≤◌, length};
 ghost use Rattle.std.proofs.Math.Option.{get_or};
 ghost use Rattle.vector_set.specs.Bits.{one};

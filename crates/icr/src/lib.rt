@@ -1,4 +1,6 @@
 // The ICR: which values may be written, what they send and to whom.
+#![tactic(auto)]
+
 ghost use Rattle.std.specs.Prelude.{◌≡◌};
 ghost use Rattle.model.specs.Ipi.{icr_type, icr_shorthand, icr_reserved_clear, icr_is_fixed, icr_is_nmi, icr_legal, icr_item, icr_target};
 

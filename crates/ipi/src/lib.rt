@@ -1,4 +1,6 @@
 // An IPI made ready before it goes from record to record: whom it is for, as bits, and what it makes pending.
+#![tactic(auto)]
+
 ghost use Rattle.std.specs.Prelude.{◌≡◌, ◌&&◌, ◌<◌, eqb};
 ghost use Rattle.vector_set.specs.Bits.{bit_at, bits};
 ghost use Rattle.model.specs.State.{is_active};

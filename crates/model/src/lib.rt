@@ -1,4 +1,6 @@
 // The state of the gate and what its events answer. What each event does is said in specs/; the crates above carry it out.
+#![tactic(auto)]
+
 // The vectors that stand for the NMI and the machine check in an allowed set and in call 4 (2.4, 4.16, 4.40, 5.17).
 pub const NMI_VECTOR: u8 = 2;
 

@@ -1,4 +1,6 @@
 // Plays the trace on standard input on one module, in place, and prints a line for each event.
+#![tactic(auto)]
+
 mod descriptors;
 
 use console::input::next_event;

@@ -1,4 +1,6 @@
 // Plays the trace on standard input on one module by value: what `replay` does in place, and it prints the same.
+#![tactic(auto)]
+
 mod descriptors;
 
 use console::input::next_event;

@@ -1,4 +1,6 @@
 // What the numbers of a guest call ask for.
+#![tactic(auto)]
+
 ghost use Rattle.std.specs.Prelude.{◌≡◌};
 ghost use Rattle.model.specs.Registers.{kind_of};
 ghost use Rattle.model.specs.Requests.{registration, read_by, write_by, write_value, nameable, permission, request_of};

@@ -1,4 +1,6 @@
 // Reading a line of a trace into an event.
+#![tactic(auto)]
+
 mod lists;
 mod numbers;
 mod pages;

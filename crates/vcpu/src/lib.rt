@@ -1,5 +1,7 @@
 // One record by value: its types, what a notice adds to it and how an item is made pending in it.
 // Entry and non-delivery, guest calls, and the pages of notices and hand-backs are crates of their own, above this one.
+#![tactic(auto)]
+
 use model::{Admission, Outcome, Presentation, Vcpu};
 
 pub mod items;

@@ -1,4 +1,6 @@
 // A list of ECX values on the allowed set of one vCPU, each as call 4 takes it.
+#![tactic(auto)]
+
 ghost use Rattle.std.specs.Prelude.{◌≡◌, false, ◌≤◌, length};
 ghost use Rattle.model.specs.Codes.{accept};
 ghost use Rattle.vcpu.specs.Records.{page_on};

@@ -1,4 +1,6 @@
 // Guest calls on the caller's record and the registration count.
+#![tactic(auto)]
+
 ghost use Rattle.std.specs.Prelude.{◌≡◌, not, ◌&&◌, eqb};
 ghost use Rattle.vector_set.specs.Bits.{bits};
 ghost use Rattle.model.specs.Items.{pending};

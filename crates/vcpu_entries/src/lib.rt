@@ -1,4 +1,6 @@
 // Entry and non-delivery on one record.
+#![tactic(auto)]
+
 ghost use Rattle.std.specs.Prelude.{◌≡◌, true, false, eqb};
 ghost use Rattle.std.proofs.Math.Option.{some};
 ghost use Rattle.model.specs.Codes.{Answer, presented_result, presented_by};

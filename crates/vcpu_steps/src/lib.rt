@@ -1,4 +1,6 @@
 // What single requests do to a record, and a release to the count.
+#![tactic(auto)]
+
 ghost use Rattle.std.specs.Prelude.{◌≡◌, cond, ◌-◌, eqb};
 ghost use Rattle.vector_set.specs.Sets.{insert, remove};
 ghost use Rattle.model.specs.State.{with_allowed, with_tpr};

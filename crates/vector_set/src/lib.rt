@@ -1,5 +1,7 @@
 // Sets of vectors 0 to 255 by value: eight words of 32 bits, the lowest vectors first. Here stand the definitions and laws, and what is done with one vector;
 // `vector_set_algebra` has whole sets, `vector_set_search` what a set holds.
+#![tactic(auto)]
+
 ghost use Rattle.std.specs.Prelude.{◌≡◌};
 ghost use Rattle.vector_set.specs.Sets.{has, empty, insert, remove, is_vector};
 

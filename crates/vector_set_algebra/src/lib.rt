@@ -1,4 +1,6 @@
 // Sets of vectors, word by word: union, difference, intersection, and the members from the lowest vector on.
+#![tactic(auto)]
+
 ghost use Rattle.std.specs.Prelude.{◌≡◌};
 ghost use Rattle.vector_set.specs.Sets.{union, difference, intersection, from};
 

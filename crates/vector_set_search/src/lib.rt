@@ -1,4 +1,6 @@
 // What a set of vectors holds: its highest member, in all words or in those that a byte marks, how many there are, whether there is none, and its summary.
+#![tactic(auto)]
+
 ghost use Rattle.std.specs.Prelude.{◌≡◌, cond, not, ◌+◌, ◌*◌, ◌^◌, ◌<◌, eqb};
 ghost use Rattle.std.specs.Int.Count.{ones};
 ghost use Rattle.vector_set.specs.Bits.{one, bit_at, bits};

@@ -1,7 +1,7 @@
 -- The page after a notice as code leaves it: the descriptor replaced by what is left of it, and the announcing bit masked out.
 -- Assumes nothing.
 use mathlib.Core.Path.{◌≡◌, refl, sym, ap, ◌∙◌, subst}
-use mathlib.Core.Bool.{Bool, true, false, cond, not, ◌&&◌, or_false, not-not}
+use mathlib.Core.Bool.{Bool, true, false, cond, not, ◌&&◌, or-false, not-not}
 use mathlib.Core.List.{List}
 use mathlib.Core.Logic.{⊎_elim}
 use Prim.Native.Nat.{ℕ, ◌+◌, ◌*◌, ◌-◌, ◌/◌, ◌%◌, ◌^◌, ◌<◌, ◌≤◌}
@@ -49,7 +49,7 @@ module _ (l : ℕ) (many : Bool) (low : 1 ≤ l) (high : l ≤ 3) where
   clears_mark : (b : ℕ) → b < 8 → clears l many (8 * 3 + b) ≡ eqb b (l - 1)
   unfolding clears
   clears_mark b r =
-      rw (lt-leb (8 * (64 * l)) (8 * 3 + b) (omega arith), or_false (eqb (8 * 3 + b) (8 * 2 + (7 + l))))
+      rw (lt-leb (8 * (64 * l)) (8 * 3 + b) (omega arith), or-false (eqb (8 * 3 + b) (8 * 2 + (7 + l))))
       (eqb_same (8 * 3 + b) (8 * 2 + (7 + l)) b (l - 1) (λ (q : 8 * 3 + b ≡ 8 * 2 + (7 + l)). omega arith) (λ (q : b ≡ l - 1). omega arith))
 
   clears_in : (i b : ℕ) → i < 32 → b < 8 → clears l many (8 * (64 * l + i) + b) ≡ clears_bit many (8 * i + b)

@@ -1,7 +1,7 @@
 -- The laws by which the bytes that code writes in a hand-back are the definition's.
 -- Assumes nothing.
 use mathlib.Core.Path.{◌≡◌, refl, sym, subst, ap, ◌∙◌}
-use mathlib.Core.Bool.{Bool, true, false, not, ◌&&◌, ◌||◌, and-true, or_false, and_assoc}
+use mathlib.Core.Bool.{Bool, true, false, not, ◌&&◌, ◌||◌, and-true, or-false, and_assoc}
 use mathlib.Core.List.{List, [], ◌++◌, append_assoc, append-nil}
 use mathlib.Core.Logic.{⊎_elim}
 use mathlib.Core.Option
@@ -157,7 +157,7 @@ module _ (irr level : List ℕ) (nmi mc : Bool) where
   unfolding handed_bit
   byte_1 b h =
       rw (lt-leb (8 * 1 + b) 7 (omega arith), lt-leb 31 (8 * 1 + b) (omega arith), ← edge_set irr level)
-      (flags_bit nmi mc (not (is_empty level)) (not (is_empty edge)) b h ∙ sym (or_false _))
+      (flags_bit nmi mc (not (is_empty level)) (not (is_empty edge)) b h ∙ sym (or-false _))
 
   byte_j : (j b : ℕ) → 1 < j → j < 32 → b < 8 → has edge (8 * j + b) ≡ handed_bit irr level nmi mc (8 * j + b)
   unfolding handed_bit

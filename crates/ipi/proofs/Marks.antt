@@ -26,7 +26,7 @@ use Rattle.model.specs.Items.{mark}
 use Rattle.model.specs.Ipi.{icr_type, icr_vector, icr_item}
 use Rattle.model.specs.contracts.Item as I
 use Rattle.model.proofs.Item.TheLaws as I'
-use mathlib.Core.Bool.{or_true, or_false, and-true, and-false}
+use mathlib.Core.Bool.{or-true, or-false, and-true, and-false}
 use Rattle.ipi.specs.declared.Posting.{Posting}
 use Rattle.ipi.specs.Posts.{posting_of, summary_in, word_in, mark_in, posted, Posted}
 
@@ -80,8 +80,8 @@ posted_is p v l ws small y e = rw e (of y (rw e at l))
           or_zero_r v.summary,
           or_zero_r (get_or v.irr 0 0),
           set-get_or v.irr 0 0,
-          or_true v.nmi,
-          or_false v.machine_check,
+          or-true v.nmi,
+          or-false v.machine_check,
         )
     of MachineCheck l =
         rw (
@@ -89,12 +89,12 @@ posted_is p v l ws small y e = rw e (of y (rw e at l))
           or_zero_r v.summary,
           or_zero_r (get_or v.irr 0 0),
           set-get_or v.irr 0 0,
-          or_false v.nmi,
-          or_true v.machine_check,
+          or-false v.nmi,
+          or-true v.machine_check,
         )
     of (Vector x) l =
         let m : x < 256 = omega (arith, l) in
-        rw (or_false v.nmi, or_false v.machine_check)
+        rw (or-false v.nmi, or-false v.machine_check)
         (ap₂ (λ (b : ℕ) (xs : List ℕ). with_summary b (with_irr xs v))
         (ap (bit_or v.summary) (summary_at (posting_of (Vector x)) (pow_some (x % 32)) l ∙ sym (single_summary x m))
         ∙ sym (remade_joined (λ y. eqb y x) v.irr v.summary small))
@@ -111,7 +111,7 @@ sent_unchecked x = pick (eqb (icr_type x) 4)
     pick false = refl
 
 pub posted_sent : (p : Posting) (v : Vcpu) → p.machine_check ≡ false → mark_in p (word_in p v) ≡ posted p v
-posted_sent p v e = rw (e, or_false v.machine_check)
+posted_sent p v e = rw (e, or-false v.machine_check)
 
 -- a record's set is eight words if it is with what a posting adds
 pub words_before : (p : Posting) (v : Vcpu) → Words (posted p v).irr → Words v.irr

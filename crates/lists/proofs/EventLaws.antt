@@ -1,7 +1,7 @@
 -- What one event adds to the ledger is what it is to the machine.
 -- Assumes nothing.
 use mathlib.Core.Path.{◌≡◌, refl, sym, ap, ap₂, ◌∙◌, subst}
-use mathlib.Core.Bool.{Bool, true, false, not, ◌&&◌, ◌||◌, and-true, and-false, and_comm, or_false}
+use mathlib.Core.Bool.{Bool, true, false, not, ◌&&◌, ◌||◌, and-true, and-false, and_comm, or-false}
 use mathlib.Core.Option.{Option, none, some}
 use Prim.Native.Nat.{ℕ, ◌+◌}
 use native.Mathlib.Omega.{arith}
@@ -52,10 +52,10 @@ adds_asked b p g h a r s q w =
       presented = omega (arith, s);
       merged =
           ap (λ (k : Waiting). k.merged) q ∙ raised b g.waiting.waits p g.waiting.merged w
-          ∙ ap (λ (t : Bool). g.waiting.merged + one (t && p)) (sym (or_false b));
+          ∙ ap (λ (t : Bool). g.waiting.merged + one (t && p)) (sym (or-false b));
       handed_back = omega (arith, ap (λ (k : Waiting). k.handed_back) q);
-      waits = ap (λ (k : Waiting). k.waits) q ∙ ap (λ (t : Bool). t || g.waiting.waits) (sym (or_false b));
-      once = omega (arith, a, r, ap one (or_false b));
+      waits = ap (λ (k : Waiting). k.waits) q ∙ ap (λ (t : Bool). t || g.waiting.waits) (sym (or-false b));
+      once = omega (arith, a, r, ap one (or-false b));
     }
 
 adds_returned : (b p : Bool) (g : Ledger) → g.waiting.waits ≡ p → EventAdds false b false false p g (add_returned b g)

@@ -1,7 +1,7 @@
 -- When a vCPU has left, and which code a hand-back has: proved.
 -- Assumes nothing.
 use mathlib.Core.Path.{◌≡◌, refl, sym, ap, ◌∙◌, subst}
-use mathlib.Core.Bool.{Bool, true, false, cond, ◌&&◌, ◌||◌, or_false, and-false}
+use mathlib.Core.Bool.{Bool, true, false, cond, ◌&&◌, ◌||◌, or-false, and-false}
 use mathlib.Core.List.{List, [], ◌∷◌, ◌++◌}
 use mathlib.Core.Option
 use mathlib.Core.Option.{Option, none, some}
@@ -102,16 +102,16 @@ module _ (m : Module) (j : ℕ) where
   leaves_none : (e : Event) → hands_back_at m j e ≡ false → left_in (feed (book_of m) (note e)) j ≡ left_in (book_of m) j → Leaves e
   leaves_none e b h =
       left_book (next m e) j ∙ ap (λ (w : Book). left_in w j) (sym (follow m e)) ∙ h ∙ sym (left_book m j)
-      ∙ sym (or_false (has_left (vcpu_at m j).phase)) ∙ ap (λ (t : Bool). has_left (vcpu_at m j).phase || t) (sym b)
+      ∙ sym (or-false (has_left (vcpu_at m j).phase)) ∙ ap (λ (t : Bool). has_left (vcpu_at m j).phase || t) (sym b)
 
   leaves_back : (i : ℕ) (p : Bytes) (iF sh : Bool) → Leaves (at i (hand_back p iF sh))
   unfolding concluded effect emptied
   leaves_back i p iF sh =
       by_verdict_lem m (at i (hand_back p iF sh)) (λ o. has_left (vcpu_at o.after j).phase ≡ (has_left (vcpu_at m j).phase || (accepted o.result && eqb j i)))
-      (λ c h. sym (or_false (has_left (vcpu_at m j).phase)))
+      (λ c h. sym (or-false (has_left (vcpu_at m j).phase)))
       (λ h. rw (vcpu_at_count)
       (on_put m i (emptied (vcpu_at m i)) j (known_of m i (hand_back p iF sh) h).there (λ _ b u v. has_left v.phase ≡ (has_left u.phase || b))
-      (yes_with (has_left (vcpu_at m i).phase)) (sym (or_false (has_left (vcpu_at m j).phase)))))
+      (yes_with (has_left (vcpu_at m i).phase)) (sym (or-false (has_left (vcpu_at m j).phase)))))
     where
       yes_with : (b : Bool) → true ≡ (b || true)
       yes_with true = refl
@@ -138,7 +138,7 @@ or_assoc false b c = refl
 
 left : (m : Module) (es : List Event) (j : ℕ) → has_left (vcpu_at (final m es) j).phase ≡ (has_left (vcpu_at m j).phase || hands_back_in j m es)
 unfolding final hands_back_in
-left m [] j = sym (or_false (has_left (vcpu_at m j).phase))
+left m [] j = sym (or-false (has_left (vcpu_at m j).phase))
 left m (e ∷ es) j =
     left (next m e) es j ∙ ap (λ (t : Bool). t || hands_back_in j (next m e) es) (leaves_at m j e.vcpu e.act)
     ∙ or_assoc (has_left (vcpu_at m j).phase) (hands_back_at m j e) (hands_back_in j (next m e) es)

@@ -1,7 +1,7 @@
 -- What a call sends, by what its numbers ask for, is what the ledger posts for its numbers, where it asks for anything.
 -- Assumes nothing.
 use mathlib.Core.Path.{◌≡◌, refl, ◌∙◌, sym, ap}
-use mathlib.Core.Bool.{Bool, true, false, cond, ◌&&◌, ◌||◌, or_false}
+use mathlib.Core.Bool.{Bool, true, false, cond, ◌&&◌, ◌||◌, or-false}
 use Prim.Native.Nat.{ℕ}
 use borrow.Author.Tests.{eqb-true}
 use lib.Dec.{ltb, leb, eqb}
@@ -68,7 +68,7 @@ module _ (j : ℕ) (x : Item) (w : Book) (i : ℕ) where
     where
       fourth : (b : Bool) → Sends ((b && reaches j x w i (icr_item y) (icr_target y)) || false)
           (cond b (cond (icr_legal y) (request.Icr y) bad) (request.Refused BadRegister))
-      fourth true = sends_either (icr_legal y) _ _ _ (sym (or_false (reaches j x w i (icr_item y) (icr_target y)))) refl
+      fourth true = sends_either (icr_legal y) _ _ _ (sym (or-false (reaches j x w i (icr_item y) (icr_target y)))) refl
       fourth false = refl
 
       third : (b : Bool) → eqb c 0x808 ≡ b

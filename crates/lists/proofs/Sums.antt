@@ -1,7 +1,7 @@
 -- Every request accounted for, proved from any module value and for what start gives.
 -- Assumes nothing.
 use mathlib.Core.Path.{◌≡◌, refl, sym, ap, ap₂, ◌∙◌, subst}
-use mathlib.Core.Bool.{Bool, true, false, not, ◌&&◌, ◌||◌, and-false, or_false}
+use mathlib.Core.Bool.{Bool, true, false, not, ◌&&◌, ◌||◌, and-false, or-false}
 use mathlib.Core.List.{List, [], ◌∷◌}
 use mathlib.Core.Option.{Option, none}
 use Prim.Native.Nat.{ℕ, ◌+◌, ◌<◌}
@@ -87,7 +87,7 @@ merged_by m es i p x r =
     rose ((requests_at k i x e || returns_at k i x e) && pending x (vcpu_at k i)) _ _ (adds_at m es e i x r).merged
     ∙ ap₂ (λ (t u : Bool). (is_accepted k e && (t && in_part x (admitted k.vmpl (vcpu_at k i).allowed p)) || u) && pending x (vcpu_at k i))
     (eq-eqb i i refl) (and-false (is_accepted k e))
-    ∙ ap (λ (t : Bool). t && pending x (vcpu_at k i)) (or_false (is_accepted k e && in_part x (admitted k.vmpl (vcpu_at k i).allowed p)))
+    ∙ ap (λ (t : Bool). t && pending x (vcpu_at k i)) (or-false (is_accepted k e && in_part x (admitted k.vmpl (vcpu_at k i).allowed p)))
 
 second_at : (m : Module) (i : ℕ) (p : Bytes) (a b : ℕ) → (step m (at i (notice p))).result ≡ counted a b
     → b ≡ item_count (λ x. is_accepted m (at i (notice p)) && in_part x (admitted m.vmpl (vcpu_at m i).allowed p) && pending x (vcpu_at m i))

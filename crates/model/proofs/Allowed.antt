@@ -1,7 +1,7 @@
 -- What a notice admits is in the set that it was judged by, and is the NMI, the machine check or a vector 31 to 255.
 -- Assumes nothing.
 use mathlib.Core.Path.{◌≡◌, refl, ◌∙◌}
-use mathlib.Core.Bool.{Bool, true, false, cond, ◌&&◌, ◌||◌, or_false, and-eq-true_iff}
+use mathlib.Core.Bool.{Bool, true, false, cond, ◌&&◌, ◌||◌, or-false, and-eq-true_iff}
 use mathlib.Core.List.{List}
 use mathlib.Core.Option.{none, some}
 use Prim.Native.Nat.{ℕ, ◌≤◌}
@@ -21,7 +21,7 @@ pub none_in : (x : Item) → InRange x → in_part x no_part ≡ false
 unfolding no_part
 none_in item.Nmi r = refl
 none_in item.MachineCheck r = refl
-none_in (item.Vector v) r = or_false (has empty v) ∙ has_empty v r
+none_in (item.Vector v) r = or-false (has empty v) ∙ has_empty v r
 
 pub none_admitted : {A : Type 0} (x : Item) → InRange x → in_part x no_part ≡ true → A
 none_admitted x r h = let z = none_in x r in clash (cc)

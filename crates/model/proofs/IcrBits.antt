@@ -1,7 +1,7 @@
 -- The ICR's bits: what the reserved ones refuse, and that 14 and 15 play no part in delivery.
 -- Assumes nothing.
 use mathlib.Core.Path.{◌≡◌, refl, sym, ap, ◌∙◌}
-use mathlib.Core.Bool.{Bool, true, false, ◌&&◌, ◌||◌, and-false, or_false}
+use mathlib.Core.Bool.{Bool, true, false, ◌&&◌, ◌||◌, and-false, or-false}
 use Prim.Native.Nat.{ℕ, zero, suc, ◌+◌, ◌*◌, ◌-◌, ◌/◌, ◌%◌, ◌^◌, ◌<◌, ◌≤◌}
 use native.Mathlib.Nat.{pow-succ', div-one, mod-lt}
 use native.Mathlib.Omega.{arith}
@@ -64,7 +64,7 @@ same_delivery_lem x y e =
 
 -- to set either bit is such a difference
 pub set_apart_lem : (x b : ℕ) → is14_or15 b ≡ true → EqualBut14And15 x (bit_or x (2 ^ b))
-set_apart_lem x b h k n = sym (bit_or_lem x (2 ^ b) k ∙ rw (bit_pow, apart (eqb k b) refl, or_false))
+set_apart_lem x b h k n = sym (bit_or_lem x (2 ^ b) k ∙ rw (bit_pow, apart (eqb k b) refl, or-false))
   where
     apart : (t : Bool) → eqb k b ≡ t → t ≡ false
     apart false e = refl

@@ -2,7 +2,7 @@
 -- record of a vCPU that is not active, and what stands at n and above.
 -- Assumes nothing.
 use mathlib.Core.Path.{◌≡◌, refl, sym, ap, ◌∙◌, subst}
-use mathlib.Core.Bool.{Bool, true, false, cond, ◌&&◌, ◌||◌, or_true}
+use mathlib.Core.Bool.{Bool, true, false, cond, ◌&&◌, ◌||◌, or-true}
 use mathlib.Core.List.{List}
 use mathlib.Core.Option.{Option, none, some}
 use Prim.Native.Nat.{ℕ, ◌<◌, ◌≤◌, ◌-◌}
@@ -102,7 +102,7 @@ abbrev IsPending : Item → Said
 IsPending y nmi mc irr pl = pending_in y nmi mc irr ≡ true
 
 pending_marks : (y : Item) → InRange y → Marks (IsPending y)
-pending_marks y r z n v h = pending_mark y r z v ∙ rw (h, or_true)
+pending_marks y r z n v h = pending_mark y r z v ∙ rw (h, or-true)
 
 pub calls_keep_pending_lem : (m : Module) (i op c x j : ℕ) (y : Item) → InRange y → pending y (vcpu_at m j) ≡ true
     → pending y (vcpu_at (next m (at i (call op c x))) j) ≡ true

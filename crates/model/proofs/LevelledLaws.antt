@@ -1,7 +1,7 @@
 -- A set of vectors 31 to 255 and its level-sensitive part, after each change of them.
 -- Assumes nothing.
 use mathlib.Core.Path.{◌≡◌, refl, sym, ◌∙◌}
-use mathlib.Core.Bool.{Bool, true, false, not, ◌&&◌, ◌||◌, and-false, or_true}
+use mathlib.Core.Bool.{Bool, true, false, not, ◌&&◌, ◌||◌, and-false, or-true}
 use mathlib.Core.List.{List}
 use Prim.Native.Nat.{ℕ, ◌<◌, ◌≤◌}
 use native.Mathlib.Omega.{arith}
@@ -53,7 +53,7 @@ levelled_insert x s t g l =
       words = collect_words (λ v. eqb v x || has s v);
       level_words = l.level_words;
       vectors = λ v h. has_collect (λ v. eqb v x || has s v) v (omega arith) ∙ rw (eqb_below v x (omega arith)) (l.vectors v h);
-      within = λ v h e. has_collect (λ v. eqb v x || has s v) v h ∙ rw (l.within v h e) (or_true (eqb v x));
+      within = λ v h e. has_collect (λ v. eqb v x || has s v) v h ∙ rw (l.within v h e) (or-true (eqb v x));
     }
 
 -- x joins s, and its level-sensitive part if u has it

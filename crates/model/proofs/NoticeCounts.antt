@@ -1,7 +1,7 @@
 -- What a notice counts: the items that became pending, and its two numbers together.
 -- Assumes nothing.
 use mathlib.Core.Path.{◌≡◌, refl, sym, ap, ap₂, ◌∙◌}
-use mathlib.Core.Bool.{Bool, true, false, cond, not, ◌&&◌, ◌||◌, and-false, or_false}
+use mathlib.Core.Bool.{Bool, true, false, cond, not, ◌&&◌, ◌||◌, and-false, or-false}
 use mathlib.Core.List.{List}
 use mathlib.Core.Option.{Option, none, some}
 use Prim.Native.Nat.{ℕ, ◌+◌, ◌<◌}
@@ -114,7 +114,7 @@ apart : (n c : Bool) (f : ℕ → Bool) (o : Option ℕ) → ((x : ℕ) → o �
 unfolding item_count items
 apart n c f none h =
     let e : count (collect (λ v. has (collect f) v || false)) ≡ count (collect f) =
-    ap count (collect_ext (λ v. has (collect f) v || false) f (λ v l. or_false (has (collect f) v) ∙ has_collect f v l)) in
+    ap count (collect_ext (λ v. has (collect f) v || false) f (λ v l. or-false (has (collect f) v) ∙ has_collect f v l)) in
     omega arith
 apart n c f (some x) h =
     let e : count (collect (λ v. has (collect f) v || eqb v x)) ≡ count (collect f) + 1 =

@@ -1,7 +1,7 @@
 -- The numbers of a call: what `request_of` makes of them is refused with the code of the first cause of section 11 that holds.
 -- Assumes nothing.
 use mathlib.Core.Path.{◌≡◌, refl, sym, ap, ap₂, ◌∙◌}
-use mathlib.Core.Bool.{Bool, true, false, cond, not, ◌&&◌, ◌||◌, or_false, and-false, and_comm}
+use mathlib.Core.Bool.{Bool, true, false, cond, not, ◌&&◌, ◌||◌, or-false, and-false, and_comm}
 use mathlib.Core.List.{[], ◌∷◌}
 use mathlib.Core.Option.{Option, none, some}
 use Prim.Native.Nat.{ℕ, zero, suc, ◌/◌, ◌%◌, ◌^◌, ◌≤◌}
@@ -113,9 +113,9 @@ module _ (j : ℕ) (u : Vcpu) where
 
       pick : (e f g h : Bool) → eqb c 0x80B ≡ e → eqb c 0x83F ≡ f → eqb c 0x808 ≡ g → eqb c 0x830 ≡ h
           → refusal_in (may k (write_value c x)) ≡ first_cause (cause 0x80000005 (bad_value c x) ∷ [])
-      pick true f g h p q s t = rw (eqb-true c 0x80B p) (simp or_false (taken (eqb x 0) (request.Local local.Eoi) refl))
-      pick false true g h p q s t = rw (eqb-true c 0x83F q) (simp or_false (taken (is_vector x) (request.Local (local.SelfIpi x)) refl))
-      pick false false true h p q s t = rw (eqb-true c 0x808 s, ltb_leb 255 x) (simp or_false (taken (leb x 255) (request.Local (local.SetTpr x)) refl))
+      pick true f g h p q s t = rw (eqb-true c 0x80B p) (simp or-false (taken (eqb x 0) (request.Local local.Eoi) refl))
+      pick false true g h p q s t = rw (eqb-true c 0x83F q) (simp or-false (taken (is_vector x) (request.Local (local.SelfIpi x)) refl))
+      pick false false true h p q s t = rw (eqb-true c 0x808 s, ltb_leb 255 x) (simp or-false (taken (leb x 255) (request.Local (local.SetTpr x)) refl))
       pick false false false true p q s t = rw (eqb-true c 0x830 t) (taken (icr_legal x) (request.Icr x) refl)
       pick false false false false p q s t = clash (neither (is_read c) (rw (p, q, s, t) at n) (rw (p, q, s, t) at r))
 

@@ -1,7 +1,7 @@
 -- The descriptor that a hand-back writes, read again by the notice rule.
 -- Assumes nothing.
 use mathlib.Core.Path.{◌≡◌, refl, sym, ap, ◌∙◌}
-use mathlib.Core.Bool.{Bool, true, false, cond, not, ◌&&◌, ◌||◌, or_false, or_true, and-true, and-false}
+use mathlib.Core.Bool.{Bool, true, false, cond, not, ◌&&◌, ◌||◌, or-false, or-true, and-true, and-false}
 use mathlib.Core.List.{List}
 use mathlib.Core.Option
 use mathlib.Core.Option.{Option, none, some}
@@ -32,7 +32,7 @@ announced : (l : ℕ) (q : List ℕ) → 256 ≤ length q → l ≤ 3 → announ
 unfolding announces announce
 announced l q long small =
     map_bits_bit (λ k b. b || eqb k (announcing_bit l)) q (announcing_bit l) (omega arith)
-    ∙ rw (eq-eqb (announcing_bit l) (announcing_bit l) refl) (or_true (bit_of q (announcing_bit l)))
+    ∙ rw (eq-eqb (announcing_bit l) (announcing_bit l) refl) (or-true (bit_of q (announcing_bit l)))
 
 pub handed_length : (v : Vcpu) → length (handed v) ≡ 64
 unfolding handed handed_bytes
@@ -71,7 +71,7 @@ module _ (l : ℕ) (v : Vcpu) (p : List ℕ) (low : 1 ≤ l) (high : l ≤ 3) (l
   unfolding set_bit
   bit_at_lem j b hj hb =
       let e : 8 * (0 + (64 * l + j)) + b ≡ 8 * (64 * l + j) + b = omega arith in
-      rw (e, ne_eqb (8 * (64 * l + j) + b) (announcing_bit l) (λ (q : 8 * (64 * l + j) + b ≡ announcing_bit l). omega arith), or_false)
+      rw (e, ne_eqb (8 * (64 * l + j) + b) (announcing_bit l) (λ (q : 8 * (64 * l + j) + b ≡ announcing_bit l). omega arith), or-false)
       (bit_of_byte after (64 * l + j) b hb
       ∙ ap (λ (x : ℕ). bit_at x b) (after_at j hj)
       ∙ bits_bit (handed_at v) (8 * (0 + j)) 8 b hb)
@@ -123,19 +123,19 @@ module _ (v : Vcpu) (sound : Levelled v.irr v.irr_level) where
 
   bit_nmi : bit_of d nmi_bit ≡ v.nmi
   unfolding handed_at handed_bit
-  bit_nmi = bit 8 (omega arith) ∙ simp or_false
+  bit_nmi = bit 8 (omega arith) ∙ simp or-false
 
   bit_machine_check : bit_of d machine_check_bit ≡ v.machine_check
   unfolding handed_at handed_bit
-  bit_machine_check = bit 9 (omega arith) ∙ simp or_false
+  bit_machine_check = bit 9 (omega arith) ∙ simp or-false
 
   bit_level : bit_of d level_bit ≡ not (is_empty v.irr_level)
   unfolding handed_at handed_bit
-  bit_level = bit 10 (omega arith) ∙ simp or_false
+  bit_level = bit 10 (omega arith) ∙ simp or-false
 
   bit_many : bit_of d many_bit ≡ not (is_empty edges)
   unfolding handed_at handed_bit
-  bit_many = bit 14 (omega arith) ∙ simp or_false
+  bit_many = bit 14 (omega arith) ∙ simp or-false
 
   bit_vector : (x : ℕ) → 31 ≤ x → x < 256 → bit_of d x ≡ (irr x && not (level x))
   unfolding handed_at handed_bit
@@ -162,7 +162,7 @@ module _ (v : Vcpu) (sound : Levelled v.irr v.irr_level) where
         eqb_below b 14 (omega arith),
         lt-leb 31 b (omega arith),
       )
-      (simp or_false)
+      (simp or-false)
 
   -- bits 7:0
   reads_field : vector_field d ≡ Option.get_or (highest v.irr_level) 0

@@ -1,7 +1,7 @@
 -- Why the record of an accepted event's vCPU stays sound, its summary apart.
 -- Assumes nothing.
 use mathlib.Core.Path.{◌≡◌, refl, sym, ◌∙◌}
-use mathlib.Core.Bool.{Bool, true, false, cond, not, ◌&&◌, ◌||◌, or_true}
+use mathlib.Core.Bool.{Bool, true, false, cond, not, ◌&&◌, ◌||◌, or-true}
 use mathlib.Core.List.{List}
 use mathlib.Core.Option.{Option, none, some}
 use Prim.Native.Nat.{ℕ, ◌-◌, ◌<◌, ◌≤◌}
@@ -99,8 +99,8 @@ sound_noticed l p v h =
         pick false q = refl
 
     sub : (d e b : Bool) {c : Bool} → (d ≡ true → c ≡ true) → (d || b) ≡ true → ((e || b) || c) ≡ true
-    sub true e b h p = rw (h refl) (or_true (e || b))
-    sub false e b {c} h p = rw (p, or_true e)
+    sub true e b h p = rw (h refl) (or-true (e || b))
+    sub false e b {c} h p = rw (p, or-true e)
 
 -- ---- what a call does to a record
 pub sound_mark : (y : Item) (v : Vcpu) → IsVector y → Formed v → Formed (mark y v)

@@ -1,7 +1,7 @@
 -- What an act leaves of the record of its vCPU and of the count: the fields and vectors that its row of the table does not name.
 -- Assumes nothing.
 use mathlib.Core.Path.{◌≡◌, refl, ap, ◌∙◌}
-use mathlib.Core.Bool.{Bool, true, false, cond, not, ◌&&◌, ◌||◌, or_false}
+use mathlib.Core.Bool.{Bool, true, false, cond, not, ◌&&◌, ◌||◌, or-false}
 use mathlib.Core.List.{List, [], ◌∷◌}
 use mathlib.Core.Option.{Option, none, some}
 use Prim.Native.Nat.{ℕ, ◌-◌, ◌%◌, ◌<◌}
@@ -133,7 +133,7 @@ remove_other : (x y : ℕ) (s : List ℕ) → x < 256 → eqb x y ≡ false → 
 remove_other x y s l n = has_remove y s x l ∙ rw n
 
 gains_other : (x y : ℕ) (s t : List ℕ) → x < 256 → eqb x y ≡ false → has (gains y s t) x ≡ has t x
-gains_other x y s t l n = has_collect (λ v. has t v || (eqb v y && has s y)) x l ∙ rw n (or_false (has t x))
+gains_other x y s t l n = has_collect (λ v. has t v || (eqb v y && has s y)) x l ∙ rw n (or-false (has t x))
 
 -- an item that is not x becomes pending, or is so no more
 mark_other : (x : ℕ) → x < 256 → (y : Item) (v : Vcpu) → is_item (Vector x) (some y) ≡ false → has (mark y v).irr x ≡ has v.irr x
@@ -176,10 +176,10 @@ member_noticed : (x : ℕ) → x < 256 → (a : Part) (v : Vcpu) → in_part (Ve
 unfolding noticed
 member_noticed x l a v n f =
     kept x (noticed a v) v (ap (λ (u : Vcpu). has u.allowed x) (rest_mark_all (λ y. in_part y a) v))
-    (pending_mark_all (Vector x) l (λ y. in_part y a) v ∙ rw n (or_false (has v.irr x)))
+    (pending_mark_all (Vector x) l (λ y. in_part y a) v ∙ rw n (or-false (has v.irr x)))
     (ap (λ (u : Vcpu). has u.isr x) (rest_mark_all (λ y. in_part y a) v))
     (has_collect (λ y. has v.irr_level y || is_level a.level y) x l
-    ∙ rw (neither (has a.edge x) (is_level a.level x) n).1 (or_false (has v.irr_level x)))
+    ∙ rw (neither (has a.edge x) (is_level a.level x) n).1 (or-false (has v.irr_level x)))
     (ap (λ (u : Vcpu). has u.isr_level x) (rest_mark_all (λ y. in_part y a) v)) f
 
 -- ---- what an act leaves

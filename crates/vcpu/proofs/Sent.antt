@@ -19,7 +19,7 @@ use Rattle.model.specs.State.{is_active, absent, size, vcpu_at, with_vcpu}
 use Rattle.model.specs.Items.{pending, mark}
 use Rattle.model.proofs.Stored.{map_from_at}
 use Rattle.model.specs.Ipi.{icr_item, icr_target, hits, reached, reach, map_from, sent, new_bits}
-use mathlib.Core.Bool.{or_true, or_false}
+use mathlib.Core.Bool.{or-true, or-false}
 use Rattle.vcpu.specs.Records.{Sending, send_at, send_below}
 use Rattle.vcpu.proofs.Stores.{with_vcpus, put_same, size_le}
 
@@ -37,10 +37,10 @@ bits_more f k e = bits_unique f 0 (suc k) (bit_or (bits f 0 k) (2 ^ k)) (or_lt (
     pick : (b : ℕ) → b < suc k → (t : Bool) → eqb b k ≡ t → bit_at (bits f 0 k) b || t ≡ f (0 + b)
     pick b h true q =
         let z : 0 + k ≡ k = omega arith in
-        rw (eqb-true b k q, z, e) (or_true (bit_at (bits f 0 k) k))
+        rw (eqb-true b k q, z, e) (or-true (bit_at (bits f 0 k) k))
     pick b h false q =
         let l : b < k = (let n = eqb-false b k q in omega arith) in
-        rw (bits_bit f 0 k b l) (or_false (f (0 + b)))
+        rw (bits_bit f 0 k b l) (or-false (f (0 + b)))
 
     at : (b : ℕ) → b < suc k → bit_at (bit_or (bits f 0 k) (2 ^ k)) b ≡ f (0 + b)
     at b h = rw (bit_or_lem (bits f 0 k) (2 ^ k) b, bit_pow k b) (pick b h (eqb b k) refl)

@@ -5,7 +5,7 @@
 --     settled_same       marks and what is in flight, where none of them changes (8.3, 8.15)
 -- Assumes nothing.
 use mathlib.Core.Path.{◌≡◌, refl, sym, ap, ap₂, ◌∙◌}
-use mathlib.Core.Bool.{Bool, true, false, cond, not, ◌&&◌, ◌||◌, or_false, and-false, and-true}
+use mathlib.Core.Bool.{Bool, true, false, cond, not, ◌&&◌, ◌||◌, or-false, and-false, and-true}
 use mathlib.Core.List.{List}
 use Prim.Native.Nat.{ℕ, ◌+◌, ◌-◌, ◌/◌, ◌%◌, ◌^◌, ◌<◌}
 use native.Mathlib.Omega.{arith}
@@ -62,7 +62,7 @@ gained_word p s x wp ws l =
     let in_set : x / 32 < 8 = omega arith in
     let y : ℕ = get_or p (x / 32) 0 in
     let z : ℕ = get_or s (x / 32) 0 in
-    word_changed (λ a q. q || (a && has p x)) (λ q. or_false q) s x (bit_or z (bit_and y (bit_of x))) ws l
+    word_changed (λ a q. q || (a && has p x)) (λ q. or-false q) s x (bit_or z (bit_and y (bit_of x))) ws l
     (or_lt 32 z (bit_and y (bit_of x)) (ws.small (x / 32) in_set) (and_lt 32 y (bit_of x) (wp.small (x / 32) in_set) (pow-lt m)))
     (λ b r. bit_or_lem z (bit_and y (bit_of x)) b ∙ ap (λ (t : Bool). bit_at z b || t)
     (bit_and_lem y (bit_of x) b ∙ ap (λ (t : Bool). bit_at y b && t) (bit_pow (x % 32) b) ∙ one_bit p x b (eqb b (x % 32)) refl))

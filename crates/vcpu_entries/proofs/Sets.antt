@@ -1,7 +1,7 @@
 -- The sets that an entry and a non-delivery give are those of the definitions.
 -- Assumes nothing.
 use mathlib.Core.Path.{◌≡◌, sym}
-use mathlib.Core.Bool.{true, false, or_comm, or_false, and-true, and-false}
+use mathlib.Core.Bool.{true, false, or_comm, or-false, and-true, and-false}
 use mathlib.Core.List.{List}
 use Prim.Native.Nat.{ℕ}
 use lib.Dec.{eqb}
@@ -18,7 +18,7 @@ unfolding insert
 gains_in x s t h = collect_ext _ _ (λ v l. rw (h, and-true (eqb v x)) (or_comm (eqb v x) (has t v)))
 
 pub gains_out : (x : ℕ) (s t : List ℕ) → has s x ≡ false → Words t → t ≡ gains x s t
-gains_out x s t h w = collect_is _ t w (λ v l. rw (h, and-false (eqb v x)) (sym (or_false (has t v))))
+gains_out x s t h w = collect_is _ t w (λ v l. rw (h, and-false (eqb v x)) (sym (or-false (has t v))))
 
 -- ---- a record with four of its sets, the summary of P and what is in flight changed
 abbrev pub moved : InFlight → Vcpu → List ℕ → ℕ → List ℕ → List ℕ → List ℕ → Vcpu

@@ -1,6 +1,6 @@
 -- What a descriptor asks for, added to a record and counted there, is what the model says of its admitted part. Assumes nothing.
 use mathlib.Core.Path.{◌≡◌, refl, sym, ap, ap₂, ◌∙◌}
-use mathlib.Core.Bool.{Bool, true, false, cond, not, ◌&&◌, ◌||◌, and-true, and-false, or_false, or_comm}
+use mathlib.Core.Bool.{Bool, true, false, cond, not, ◌&&◌, ◌||◌, and-true, and-false, or-false, or_comm}
 use mathlib.Core.List.{List}
 use mathlib.Core.Option.{Option, none, some}
 use Prim.Native.Nat.{ℕ, ◌+◌, ◌/◌, ◌%◌, ◌^◌, ◌<◌}
@@ -55,7 +55,7 @@ module _ (a d : List ℕ) where
     where
       join : (p q r : Bool) → ((not p && q && r) || (p && q && r)) ≡ (q && r)
       join true q r = refl
-      join false q r = or_false (q && r)
+      join false q r = or-false (q && r)
 
   -- bit 14 set: the level-sensitive one is no edge vector
   part_apart : bit_of d many_bit ≡ true → (y : ℕ) → y < 256 → (has (collect (admits_edge a d)) y && is_level (admits_level a d) y) ≡ false
@@ -235,8 +235,8 @@ module _ (v : Vcpu) (fit : Fits v) where
       (sym (put_is (λ y. has empty y || false) v fit.byte
       (collect_is (λ y. has empty y || false || has v.irr y) v.irr fit.irr_words (λ y l. ap (λ (b : Bool). b || has v.irr y) (sym (none_at y l))))
       (none_joined (λ y. has empty y || false) none_at v.summary)))
-      (sym (collect_is (λ y. has v.irr_level y || false) v.irr_level fit.level_words (λ y l. sym (or_false (has v.irr_level y)))))
-      ∙ ap₂ (λ (b c : Bool). with_machine_check c (with_nmi b v)) (or_false v.nmi) (or_false v.machine_check)
+      (sym (collect_is (λ y. has v.irr_level y || false) v.irr_level fit.level_words (λ y l. sym (or-false (has v.irr_level y)))))
+      ∙ ap₂ (λ (b c : Bool). with_machine_check c (with_nmi b v)) (or-false v.nmi) (or-false v.machine_check)
 
   none_counted : (f : Bool → Bool) → count (collect (λ y. (has empty y || false) && f (has v.irr y))) ≡ 0
   none_counted f =

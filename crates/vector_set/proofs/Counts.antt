@@ -1,7 +1,7 @@
 -- How many members sets have together.
 -- Assumes nothing.
 use mathlib.Core.Path.{◌≡◌, refl, sym, ap, ◌∙◌}
-use mathlib.Core.Bool.{Bool, true, false, not, ◌&&◌, ◌||◌, or_false}
+use mathlib.Core.Bool.{Bool, true, false, not, ◌&&◌, ◌||◌, or-false}
 use mathlib.Core.List.{List}
 use Prim.Native.Nat.{ℕ, zero, suc, ◌+◌, ◌<◌}
 use native.Mathlib.Nat.{not-suc-le-zero}
@@ -78,7 +78,7 @@ count_with f x h e =
   where
     pick : (v : ℕ) (b : Bool) → eqb v x ≡ b → one (f v || b) ≡ one (f v) + one b
     pick v true q = rw (ap f (eqb-true v x q) ∙ e)
-    pick v false q = rw (or_false (f v)) (omega arith)
+    pick v false q = rw (or-false (f v)) (omega arith)
 
     alone : count (collect (λ v. eqb v x)) ≡ 1
     alone =

@@ -1,7 +1,7 @@
 -- `vcpu_allow::permit_all` meets its contract. The loop's invariant: the entries below k are the codes and the others as before, and the values from k on
 -- lead from what is there now to what all values give. The measure is what is left of the values. Assumes nothing.
 use mathlib.Core.Path.{◌≡◌, refl, sym, ap, ◌∙◌, subst}
-use mathlib.Core.Bool.{Bool, ◌||◌, or_true, or_false, or_assoc}
+use mathlib.Core.Bool.{Bool, ◌||◌, or-true, or-false, or_assoc}
 use mathlib.Core.List.{List, ◌++◌, map}
 use mathlib.Core.Logic.{⊎_elim}
 use Prim.Native.Nat.{ℕ, ◌+◌, ◌-◌, ◌/◌, ◌%◌, ◌≤◌}
@@ -57,8 +57,8 @@ module _ (c : tie.Joined1 invariant-loop decreases-loop) where
       let x = value c in
       let e = c.before.value_code_lem.ensures in
       ⊎_elim
-      (λ w. w.3 ∙ sym (ap (λ (b : Bool). l.accepts || b) (code_zero x (sym e ∙ w.0.taken)) ∙ or_true l.accepts))
-      (λ w. w.2 ∙ sym (ap (λ (b : Bool). l.accepts || b) (code_other x (λ z. w.0.left (e ∙ z))) ∙ or_false l.accepts))
+      (λ w. w.3 ∙ sym (ap (λ (b : Bool). l.accepts || b) (code_zero x (sym e ∙ w.0.taken)) ∙ or-true l.accepts))
+      (λ w. w.2 ∙ sym (ap (λ (b : Bool). l.accepts || b) (code_other x (λ z. w.0.left (e ∙ z))) ∙ or-false l.accepts))
       c.if1.branch
 
 loop-again : tie.Need-loop-preserved invariant-loop decreases-loop
@@ -89,7 +89,7 @@ returns c =
     let xs = s.args.values.now in
     let e : l.k ≡ length xs = omega arith in (
       list_taken xs s.args.allowed l.accepts l.set
-          (sym (ap (λ (b : Bool). l.accepts || b) (some_all xs l.k e) ∙ or_false l.accepts) ∙ l.invariant.5)
+          (sym (ap (λ (b : Bool). l.accepts || b) (some_all xs l.k e) ∙ or-false l.accepts) ∙ l.invariant.5)
           (sym (set_all xs l.k e l.set) ∙ l.invariant.4),
       l.invariant.2 ∙ codes_all xs l.k e s.args.codes.now,
     )

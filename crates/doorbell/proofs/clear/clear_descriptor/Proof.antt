@@ -1,6 +1,6 @@
 -- `doorbell::clear::clear_descriptor` meets its contract: bit 14 is read before it is cleared. Assumes nothing.
 use mathlib.Core.Path.{◌≡◌, sym, ap, ◌∙◌}
-use mathlib.Core.Bool.{Bool, true, false, ◌||◌, or_false}
+use mathlib.Core.Bool.{Bool, true, false, ◌||◌, or-false}
 use mathlib.Core.List.{List}
 use Prim.Native.Nat.{ℕ}
 use lib.Dec.{leb, eqb}
@@ -22,7 +22,7 @@ many d = clearing_twice request (λ k. leb 31 k) d
 
 one : (d : List ℕ) → clearing request d ≡ clearing (clears_bit false) d
 unfolding clears_bit
-one d = clearing_ext request (clears_bit false) d (λ k. sym (or_false (request k)))
+one d = clearing_ext request (clears_bit false) d (λ k. sym (or-false (request k)))
 
 returns : tie.Need-returns
 unfolding bit_of

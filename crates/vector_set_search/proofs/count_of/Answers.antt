@@ -5,12 +5,10 @@ use Prim.Native.Nat.{ℕ, suc, ◌+◌, ◌*◌, ◌<◌}
 use native.Mathlib.Omega.{arith}
 use lib.ListN.{get_or}
 use lib.Count.{ones}
-use borrow.Author.Rules.{rules}
 use Rattle.vector_set.specs.Sets.{count, count_below}
 use Rattle.vector_set.proofs.Laws.{Words, count_le}
-use Rattle.vector_set.proofs.WordLaws.{array_words, count_word, at}
-use Rattle.vector_set_search.proofs.count_of.Statement.{statement}
-use Rattle.vector_set_search.proofs.count_of.Tie as tie
+use Rattle.vector_set.proofs.WordLaws.{array_words, count_word}
+use Rattle.vector_set_search.proofs.count_of.Goals as goal
 
 -- the digits of two words of s
 abbrev pair : List ℕ → ℕ → ℕ
@@ -31,38 +29,14 @@ all : (s : List ℕ) → Words s → pair s 0 + pair s 2 + pair s 4 + pair s 6 �
 unfolding count
 all s w = omega (arith, none s, two s w 0 (omega arith), two s w 2 (omega arith), two s w 4 (omega arith), two s w 6 (omega arith))
 
-here : (c : tie.Start) → pair c.args.t1 0 + pair c.args.t1 2 + pair c.args.t1 4 + pair c.args.t1 6 ≡ count c.args.t1
-here c = all c.args.t1 (array_words c.args.t1 _ c.well-formed.0)
+pub overflow_add-result : goal.overflow_add-result
+overflow_add-result c = omega (arith, all c.args.s (array_words c.args.s _ c.well_formed.0), count_le c.args.s)
 
-add-result : tie.Need-overflow-add-result
-add-result c = let s = c.before.before in omega (arith, here s, count_le s.args.t1)
+pub overflow_add-result-2 : goal.overflow_add-result-2
+overflow_add-result-2 c = omega (arith, all c.args.s (array_words c.args.s _ c.well_formed.0), count_le c.args.s)
 
-add-result-2 : tie.Need-overflow-add-result-2
-add-result-2 c = let s = c.before.before.before in omega (arith, here s, count_le s.args.t1)
+pub overflow_add-result-3 : goal.overflow_add-result-3
+overflow_add-result-3 c = omega (arith, all c.args.s (array_words c.args.s _ c.well_formed.0), count_le c.args.s)
 
-add-result-3 : tie.Need-overflow-add-result-3
-add-result-3 c = let s = c.before.before.before.before in omega (arith, here s, count_le s.args.t1)
-
-returns : tie.Need-returns
-returns c = omega (arith, here c.before.before.before.before)
-
-pub count_of_spec : {M : Type 1} → statement M
-count_of_spec =
-    tie.close
-    (tie.spec
-    (at tt)
-    (at tt)
-    (λ c κs. search rules)
-    (at tt)
-    (at tt)
-    (λ c κs. search rules)
-    add-result
-    (at tt)
-    (at tt)
-    (λ c κs. search rules)
-    add-result-2
-    (at tt)
-    (at tt)
-    (λ c κs. search rules)
-    add-result-3
-    returns)
+pub returns : goal.returns
+returns c = omega (arith, all c.args.s (array_words c.args.s _ c.well_formed.0))

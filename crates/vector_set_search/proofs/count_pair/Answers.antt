@@ -6,8 +6,7 @@ use native.Mathlib.Nat.{add_comm}
 use lib.Bits.{bit_or, or_shifted}
 use lib.Count.{ones, ones_cat}
 use lib.Pow.{shl_exact}
-use Rattle.vector_set_search.proofs.count_pair.Statement.{statement}
-use Rattle.vector_set_search.proofs.count_pair.Tie as tie
+use Rattle.vector_set_search.proofs.count_pair.Goals as goal
 
 -- the digits of both are counted apart
 pub side_by_side : (low high : ℕ) → low < 2 ^ 32 → high < 2 ^ 32 → ones (bit_or (high * 2 ^ 32 % 2 ^ 64) low) ≡ ones low + ones high
@@ -15,8 +14,5 @@ side_by_side low high l h =
     ap (λ (x : ℕ). ones (bit_or x low)) (shl_exact 32 32 64 h (omega arith))
     ∙ ap ones (or_shifted high 32 low l) ∙ ones_cat 32 high low l ∙ add_comm (ones high) (ones low)
 
-returns : tie.Need-returns
+pub returns : goal.returns
 returns c = side_by_side c.args.low c.args.high (omega arith) (omega arith)
-
-pub count_pair_spec : {M : Type 1} → statement M
-count_pair_spec = tie.close (tie.spec returns)

@@ -43,6 +43,7 @@ fn shorthand_of(value: u64) -> u64
 }
 
 // Bits 12 and 13, 16 and 17, 20 to 31 are 0 (7.8). Bits 14 and 15, assert and trigger mode, may be either (7.5).
+#[tactic(auto, unfolding(model::specs::Ipi::icr_reserved_clear))]
 fn reserved_clear(value: u64) -> bool
     ensures { result ≡ icr_reserved_clear value }
 {
@@ -50,6 +51,7 @@ fn reserved_clear(value: u64) -> bool
 }
 
 // Type Fixed, with a vector that may be sent (7.3, 7.9).
+#[tactic(auto, unfolding(model::specs::Ipi::icr_is_fixed))]
 fn is_fixed(value: u64) -> bool
     ensures { result ≡ icr_is_fixed value }
 {
@@ -57,6 +59,7 @@ fn is_fixed(value: u64) -> bool
 }
 
 // Type NMI, with neither shorthand that would send it to the caller (7.3, 7.10).
+#[tactic(auto, unfolding(model::specs::Ipi::icr_is_nmi))]
 fn is_nmi(value: u64) -> bool
     ensures { result ≡ icr_is_nmi value }
 {
@@ -65,6 +68,7 @@ fn is_nmi(value: u64) -> bool
 }
 
 // The ICR takes the value (7.11).
+#[tactic(auto, unfolding(model::specs::Ipi::icr_legal))]
 pub fn is_legal(value: u64) -> bool
     ensures { result ≡ icr_legal value }
 {
@@ -72,6 +76,7 @@ pub fn is_legal(value: u64) -> bool
 }
 
 // What a legal value sends (7.2, 7.3).
+#[tactic(auto, unfolding(model::specs::Ipi::icr_item))]
 pub fn item_of(value: u64) -> Item
     ensures { result ≡ icr_item value }
 {
@@ -82,6 +87,7 @@ pub fn item_of(value: u64) -> Item
 }
 
 // A shorthand comes before the destination (7.4, 7.6, 7.7, 7.12, 7.15).
+#[tactic(auto, unfolding(model::specs::Ipi::icr_target))]
 pub fn target_of(value: u64) -> Target
     ensures { result ≡ icr_target value }
 {

@@ -75,6 +75,7 @@ pub fn reaches(targets: u32, k: u32, phase: Phase) -> bool
 }
 
 // What makes the item pending; a vector as edge, its level mark untouched (4.27, 7.17).
+#[tactic(auto, unfolding(crate::specs::Posts::posting_of))]
 pub fn posting_of(item: Item) -> Posting
     ensures { result ≡ posting_of item }
 {
@@ -114,6 +115,7 @@ pub fn summary_of(posting: Posting) -> u8
 }
 
 // How many items of a posting become pending at a record whose word and marks were these, and how many were pending (4.29, 4.37).
+#[tactic(auto, unfolding(crate::specs::Posts::counts_of))]
 pub fn counts_of(posting: Posting, word: u32, nmi: bool, machine_check: bool) -> Counts
     ensures { result ≡ counts_of posting word nmi machine_check }
 {
@@ -132,6 +134,7 @@ pub fn counts_of(posting: Posting, word: u32, nmi: bool, machine_check: bool) ->
 }
 
 // Whether the posting of one item that an IPI sends makes it pending there (7.20): no IPI sends a machine check (7.27).
+#[tactic(auto, unfolding(crate::specs::Posts::is_new))]
 pub fn is_new(posting: Posting, word: u32, nmi: bool) -> bool
     ensures { result ≡ is_new posting word nmi }
 {

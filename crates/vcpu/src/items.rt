@@ -21,6 +21,7 @@ pub fn post(v: Vcpu, posting: Posting) -> Vcpu
 }
 
 // The item is pending (4.27, 4.42, 7.17).
+#[tactic(auto, unfolding(model::specs::Items::mark))]
 pub fn post_item(v: Vcpu, item: Item) -> Vcpu
     ensures { result ≡ mark item v }
 {

@@ -21,6 +21,7 @@ pub fn add_request(v: Vcpu, posting: Posting, level: u32) -> Vcpu
 }
 
 // The summary of P once the marked vectors are added (2.21).
+#[tactic(auto, unfolding(vector_set::specs::Summaries::summary_of))]
 pub fn mark_words(summary: u8, edge: [u32; 8]) -> u8
     ensures { result ≡ bit_or summary (summary_of edge) }
 {
@@ -40,6 +41,7 @@ pub fn add_marks(v: Vcpu, edge: [u32; 8]) -> Vcpu
 }
 
 // The marked vectors are counted with the posting that was made to the word and the marks (4.29, 4.37).
+#[tactic(auto, unfolding(crate::specs::Notices::marks_counted, ipi::specs::Posts::counts_of))]
 pub fn count_marks(
     posting: Posting,
     word: u32,

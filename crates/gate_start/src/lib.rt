@@ -8,6 +8,7 @@ ghost use Rattle.model.specs.Events.{do_start, out_of};
 use model::{InFlight, Module, Outcome, Phase, Refusal, Stepped, Vcpu};
 
 // A record with nothing in it (3.4).
+#[tactic(auto, unfolding(model::specs::State::bare))]
 fn bare(phase: Phase) -> Vcpu
     ensures { result ≡ bare phase }
 {
@@ -36,6 +37,7 @@ fn may_start(n: u32, vmpl: u32) -> bool
 }
 
 // n fresh records, and records of nothing behind them (3.3, 2.13).
+#[tactic(auto, unfolding(model::specs::State::started))]
 fn started(n: u32, vmpl: u32) -> Module
     requires { n ≤ 32 }
     ensures { result ≡ started n vmpl }
@@ -58,6 +60,7 @@ fn started(n: u32, vmpl: u32) -> Module
 }
 
 // The module that no event is served by (3.6).
+#[tactic(auto, unfolding(model::specs::State::stopped))]
 fn stopped() -> Module
     ensures { result ≡ stopped }
 {
@@ -72,6 +75,7 @@ fn stopped() -> Module
 }
 
 // A fresh module of n vCPUs for a guest at the VMPL, or the stopped one where a number is out of range (3.1 to 3.6).
+#[tactic(auto, unfolding(model::specs::Events::do_start))]
 pub fn start(n: u32, vmpl: u32) -> Stepped
     ensures { out_of result [] ≡ do_start n vmpl }
 {

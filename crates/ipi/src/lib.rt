@@ -10,7 +10,7 @@ ghost use Rattle.ipi.specs.Posts.{posting_of, summary_in, counts_of, is_new};
 use model::{Item, Phase, Target};
 
 // What items add to a record: bits of one word of the IRR, and the marks of the NMI and of the machine check.
-#[derive(Drop)]
+#[derive(Clone, Copy)]
 pub struct Posting {
     pub nmi: bool,
     pub machine_check: bool,
@@ -19,7 +19,7 @@ pub struct Posting {
 }
 
 // How many items of a posting were not pending where it goes, and how many were.
-#[derive(Drop)]
+#[derive(Clone, Copy)]
 pub struct Counts {
     pub new: u32,
     pub merged: u32,

@@ -7,7 +7,7 @@ pub const NMI_VECTOR: u8 = 2;
 pub const MACHINE_CHECK_VECTOR: u8 = 18;
 
 // The phase of a vCPU.
-#[derive(Drop)]
+#[derive(Clone, Copy)]
 pub enum Phase {
     Active,
     Leaving,
@@ -15,7 +15,7 @@ pub enum Phase {
 }
 
 // What is in flight on a vCPU: presented by its latest entry and neither confirmed by a later call, entry or accepted value of a list nor returned.
-#[derive(Drop)]
+#[derive(Clone, Copy)]
 pub enum InFlight {
     Nothing,
     Nmi,
@@ -24,7 +24,7 @@ pub enum InFlight {
 }
 
 // What is pending, sent or presented: the NMI, the machine check or a vector.
-#[derive(Drop)]
+#[derive(Clone, Copy)]
 pub enum Item {
     Nmi,
     MachineCheck,
@@ -32,7 +32,7 @@ pub enum Item {
 }
 
 // The record of one vCPU. docs/SPECIFICATION.md names the sets A, P, S, PL and SL, in this order.
-#[derive(Drop)]
+#[derive(Clone, Copy)]
 pub struct Vcpu {
     pub allowed: [u32; 8],
     pub irr: [u32; 8],
@@ -50,7 +50,7 @@ pub struct Vcpu {
 }
 
 // The module for one guest VMPL. No event reads or writes the records at n and above.
-#[derive(Drop)]
+#[derive(Clone, Copy)]
 pub struct Module {
     pub n: u32,
     pub vmpl: u32,
@@ -59,7 +59,7 @@ pub struct Module {
 }
 
 // How a register may be used.
-#[derive(Drop)]
+#[derive(Clone, Copy)]
 pub enum Kind {
     None,
     Read,
@@ -68,7 +68,7 @@ pub enum Kind {
 }
 
 // Whom an IPI is for.
-#[derive(Drop)]
+#[derive(Clone, Copy)]
 pub enum Target {
     Caller,
     All,
@@ -78,7 +78,7 @@ pub enum Target {
 }
 
 // Why an event is refused. Its code is `code_of` of specs/Codes.antt.
-#[derive(Drop)]
+#[derive(Clone, Copy)]
 pub enum Refusal {
     UnknownVcpu,
     ShortPage,
@@ -96,7 +96,7 @@ pub enum Refusal {
 }
 
 // A guest call that touches the caller's record and the registration count alone.
-#[derive(Drop)]
+#[derive(Clone, Copy)]
 pub enum Local {
     Features,
     Leave,
@@ -111,7 +111,7 @@ pub enum Local {
 }
 
 // What the numbers of a guest call ask for.
-#[derive(Drop)]
+#[derive(Clone, Copy)]
 pub enum Request {
     Local(Local),
     Icr(u64),
@@ -119,21 +119,21 @@ pub enum Request {
 }
 
 // The answer of start, a guest call, a non-delivery, a hand-back or a list of ECX values.
-#[derive(Drop)]
+#[derive(Clone, Copy)]
 pub enum Outcome {
     Done(u64),
     Refused(Refusal),
 }
 
 // The answer of a notice: how many of its items are new, and how many were merged with what was pending.
-#[derive(Drop)]
+#[derive(Clone, Copy)]
 pub enum Admission {
     Items(u32, u32),
     Refused(Refusal),
 }
 
 // The answer of an entry.
-#[derive(Drop)]
+#[derive(Clone, Copy)]
 pub enum Presentation {
     Nothing,
     Nmi,
@@ -144,19 +144,19 @@ pub enum Presentation {
 }
 
 // The answer of an event with the module after it.
-#[derive(Drop)]
+#[derive(Clone, Copy)]
 pub struct Stepped {
     pub outcome: Outcome,
     pub after: Module,
 }
 
-#[derive(Drop)]
+#[derive(Clone, Copy)]
 pub struct Noticed {
     pub admission: Admission,
     pub after: Module,
 }
 
-#[derive(Drop)]
+#[derive(Clone, Copy)]
 pub struct Entered {
     pub presentation: Presentation,
     pub after: Module,

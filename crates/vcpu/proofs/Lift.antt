@@ -3,12 +3,11 @@
 use mathlib.Core.Path.{◌≡◌, refl, sym, ap, ◌∙◌}
 use mathlib.Core.Bool.{Bool, not, ◌&&◌}
 use mathlib.Core.List.{List, []}
-use Prim.Native.Nat.{ℕ, ◌+◌, ◌-◌, ◌<◌, ◌≤◌}
+use Prim.Native.Nat.{ℕ, ◌+◌, ◌<◌, ◌≤◌}
 use native.Mathlib.Omega.{arith}
 use lib.ListN.{length}
 use borrow.Author.Tests.{lt-ltb, le-ltb}
 use Rattle.model.specs.declared.Item.{Item}
-use Rattle.model.specs.declared.Local.{Local}
 use Rattle.model.specs.declared.Phase.{Phase}
 use Rattle.model.specs.declared.Refusal.{Refusal}
 use Rattle.model.specs.declared.Refusal.TheVariants.{UnknownVcpu}
@@ -26,7 +25,6 @@ use Rattle.model.specs.Requests.{request_of}
 use Rattle.model.specs.Events.{Act, notice, call, entry, non_delivery, hand_back, at, Bytes, Event, page_of, offer, handed, vcpu_verdict, verdict, sends, Effect}
 use Rattle.model.specs.Events.{effect, call_effect, Out, store, refusal, concluded, decided, step}
 use Rattle.vector_set.proofs.BitLaws.{clash, bits_ext}
-use Rattle.vector_set.specs.Bits.{one}
 use Rattle.model.proofs.Stored.{on_put, vcpu_at_count, size_put, size_count, count_same}
 use Rattle.vcpu.proofs.Stores.{put_same, put_length}
 use Rattle.vcpu.proofs.Sent.{all_sent}

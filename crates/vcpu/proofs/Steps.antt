@@ -7,7 +7,7 @@ use Prim.Native.Nat.{ℕ, zero, suc, ◌<◌, ◌≤◌}
 use native.Mathlib.Nat.{le_of_suc-le-suc, not-suc-le-zero}
 use native.Mathlib.Omega.{arith}
 use lib.Dec.{leb}
-use lib.ListN.{length, get_or, length-map}
+use lib.ListN.{length, get_or}
 use mir.Val.{Val}
 use denote.Laws.{Is}
 use borrow.Author.Tests.{leb-true}
@@ -42,7 +42,7 @@ vmpl_in m i = pick (leb m.n 32) (leb 1 m.vmpl) (leb m.vmpl 3) refl refl
 -- ---- a record read from the array
 -- a module of a parameter (`c.good`) has 32 records
 pub records_32 : (m : Module) (vs : List Val) → Is modules.the_row m vs → length m.vcpus ≡ 32
-records_32 m vs p = sym (length-map m.vcpus _) ∙ p.1.1.1.1.1.0.1.0.1
+records_32 m vs p = p.1.1.1.1.1.0.1.0.1
 
 -- an element that is there does not depend on the default
 get_d_any : (l : List Vcpu) (i : ℕ) (d e : Vcpu) → i < length l → get_or l i d ≡ get_or l i e

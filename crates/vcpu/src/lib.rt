@@ -9,33 +9,33 @@ pub mod notices;
 pub mod records;
 
 // The record after an event, with the answer.
-#[derive(Drop)]
+#[derive(Clone, Copy)]
 pub struct VcpuStepped {
     pub outcome: Outcome,
     pub vcpu: Vcpu,
 }
 
-#[derive(Drop)]
+#[derive(Clone, Copy)]
 pub struct VcpuNoticed {
     pub admission: Admission,
     pub vcpu: Vcpu,
 }
 
-#[derive(Drop)]
+#[derive(Clone, Copy)]
 pub struct VcpuEntered {
     pub presentation: Presentation,
     pub vcpu: Vcpu,
 }
 
 // What a call gives: its answer, or the ICR value that is now to be sent, whose answer the module has.
-#[derive(Drop)]
+#[derive(Clone, Copy)]
 pub enum Reply {
     Gives(Outcome),
     Sends(u64),
 }
 
 // The caller's record and the registration count after a call.
-#[derive(Drop)]
+#[derive(Clone, Copy)]
 pub struct VcpuCalled {
     pub reply: Reply,
     pub vcpu: Vcpu,

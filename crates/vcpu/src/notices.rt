@@ -41,7 +41,6 @@ pub fn add_marks(v: Vcpu, edge: [u32; 8]) -> Vcpu
 }
 
 // The marked vectors are counted with the posting that was made to the word and the marks (4.29, 4.37).
-#[tactic(auto, unfolding(crate::specs::Notices::marks_counted, ipi::specs::Posts::counts_of))]
 pub fn count_marks(
     posting: Posting,
     word: u32,

@@ -9,7 +9,7 @@ ghost use Rattle.vector_set.specs.Sets.{has, empty, insert, remove, is_vector};
 pub const LOWEST: u8 = 31;
 
 // What a search of a set finds.
-#[derive(Drop)]
+#[derive(Clone, Copy)]
 pub enum Found {
     Vector(u8),
     Nothing,

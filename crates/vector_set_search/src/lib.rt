@@ -12,7 +12,7 @@ ghost use Rattle.vector_set_search.specs.Marked.{marked_read};
 use vector_set::Found;
 
 // A set's highest member, and how many of its words were read to find it.
-#[derive(Drop)]
+#[derive(Clone, Copy)]
 pub struct SearchResult {
     pub found: Found,
     pub words_read: u32,

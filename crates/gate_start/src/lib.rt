@@ -37,7 +37,6 @@ fn may_start(n: u32, vmpl: u32) -> bool
 }
 
 // n fresh records, and records of nothing behind them (3.3, 2.13).
-#[tactic(auto, unfolding(model::specs::State::started))]
 fn started(n: u32, vmpl: u32) -> Module
     requires { n ≤ 32 }
     ensures { result ≡ started n vmpl }

@@ -1,6 +1,6 @@
 -- A text put behind a text is the two together put at once, and where there is room for a text it stands as it is.
 -- Assumes nothing.
-use Rattle.std.proofs.Common.{◌≡◌, ℕ, zero, suc, ◌+◌, ◌-◌, ◌<◌, ◌≤◌, min, List, [], ◌∷◌, ◌++◌, length, get_or, take, drop, set, sym, refl, ap, ◌∙◌, subst, add-one, arith, length-append, length-take, take_all, take-suc}
+use Rattle.std.proofs.Common.{◌≡◌, ℕ, zero, suc, ◌+◌, ◌-◌, ◌<◌, ◌≤◌, List, [], ◌∷◌, ◌++◌, length, get_or, take, drop, set, sym, refl, ap, ◌∙◌, subst, add-one, arith, length-append, length-take, take_all, take-suc}
 use lib.Seq.{sets, sets-eq, take-nil}
 use Rattle.console.specs.Filling.{fitting, filled, reached, Puts}
 

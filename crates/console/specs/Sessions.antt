@@ -1,7 +1,7 @@
 -- Where a program stands in its input: how a line is put together from what has been read, and the event of a line that has ended.
 -- Assumes nothing.
 use Rattle.std.specs.Prelude.{◌≡◌, ℕ, ◌+◌, ◌%◌, ◌^◌, Bool, true, false, cond, ◌&&◌, List, take, drop, nat_le, nat_lt}
-use Rattle.bytes.specs.Bytes.{index_of, slice}
+use Rattle.trace.specs.Bytes.{index_of, slice}
 use Rattle.trace.specs.declared.Event.{Event}
 use Rattle.trace.specs.declared.Event.TheVariants.{Nothing}
 use Rattle.trace.specs.Words.{words, rest}

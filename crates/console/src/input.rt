@@ -34,7 +34,7 @@ fn keep_read(chunk: &Chunk, line: &mut LineRoom, session: Session) -> Session
     let from = session.from;
     let to = session.to;
     let bytes: &[u8] = chunk;
-    let end = bytes::scan::find(bytes, from, to, b'\n');
+    let end = trace::scan::find(bytes, from, to, b'\n');
     let mut next = session;
     next.kept = keep(line, session.kept, &bytes[from..end]);
     next.from = end;

@@ -30,7 +30,7 @@ pub const LIST_ROOM: usize = 1024;
 pub type ListRoom = [u32; LIST_ROOM];
 
 // How full the buffer of the output is, and whether a write has failed. Nothing is written after that.
-#[derive(Drop)]
+#[derive(Clone, Copy)]
 pub struct Sink {
     pub at: usize,
     pub lost: bool,
@@ -38,7 +38,7 @@ pub struct Sink {
 
 // Where a program stands: the bytes of the chunk that are not read yet, how many bytes of the present line are kept and whether
 // it has ended, how many lines have ended, how full the output is, and whether the program goes on.
-#[derive(Drop)]
+#[derive(Clone, Copy)]
 pub struct Session {
     pub from: usize,
     pub to: usize,

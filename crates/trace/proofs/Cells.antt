@@ -10,7 +10,7 @@ use lib.Dec.{leb, ltb}
 use lib.ListN.{length, take, drop, set, length-set, length-drop, length-replicate}
 use lib.Seq.{take_all}
 use borrow.Author.Tests.{lt-ltb, le-ltb, ltb-true}
-use Rattle.bytes.specs.Bytes.{slice, index_of}
+use Rattle.trace.specs.Bytes.{slice, index_of}
 use Rattle.trace.specs.declared.Number.{Number}
 use Rattle.trace.specs.declared.Number.TheVariants.{Value, Invalid}
 use Rattle.trace.specs.declared.Cell.{Cell}

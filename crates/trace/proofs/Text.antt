@@ -1,5 +1,6 @@
 -- The words of a text one after the other, by the places where each begins and ends.
 -- Assumes nothing.
+use mathlib.Core.Logic.{◌≢◌}
 use mathlib.Core.Path.{◌≡◌, refl, ap, ◌∙◌}
 use mathlib.Core.Bool.{Bool, true, false}
 use mathlib.Core.List.{List, [], ◌∷◌, ◌++◌, append_assoc, append-nil}
@@ -9,9 +10,10 @@ use native.Mathlib.Nat.{add-sub_cancel_left}
 use native.Mathlib.Numerals.{add-one}
 use lib.Dec.{ltb}
 use lib.ListN.{length, get_or, take, drop, length-drop, drop_of_length-le}
+use Rattle.std.proofs.lemmas.List.{get_or-take, length-take, length-take-le}
 use lib.Seq.{drop-drop, drop-cons, take-nil, take-length}
-use borrow.Author.Tests.{ltb-true, ltb-false}
-use Rattle.bytes.specs.Bytes.{slice, index_of, index_after}
+use borrow.Author.Tests.{ltb-true, ltb-false, eq-eqb, ne_eqb}
+use Rattle.trace.specs.Bytes.{slice, index_of}
 use Rattle.trace.specs.Words.{is_space, spaces, ending, words_after, words, first, rest}
 use Rattle.trace.specs.Numbers.{number_of, is_hex, digits_of, up_to}
 
@@ -33,6 +35,24 @@ slice_end : (s : List ℕ) (from : ℕ) → slice from (length s) s ≡ drop fro
 unfolding slice
 slice_end s from = ap (drop from) (take-length s)
 
+-- what a search for the byte b passes
+module _ (s : List ℕ) (to b i : ℕ) where
+  slice_cons : i < to → to ≤ length s → slice i to s ≡ get_or s i 0 ∷ slice (i + 1) to s
+  unfolding slice
+  slice_cons h l = rw (add-one, drop-cons (take to s) i 0 (omega (arith, length-take-le to s l)), get_or-take to s i 0 h)
+
+  pub found_more : i < to → to ≤ length s → get_or s i 0 ≢ b → index_of b (slice i to s) ≡ suc (index_of b (slice (i + 1) to s))
+  unfolding index_of
+  found_more h l n = rw (slice_cons h l, ne_eqb (get_or s i 0) b n)
+
+  pub found_stop : i < to → to ≤ length s → get_or s i 0 ≡ b → index_of b (slice i to s) ≡ 0
+  unfolding index_of
+  found_stop h l e = rw (slice_cons h l, eq-eqb (get_or s i 0) b e)
+
+  pub found_end : to ≤ i → index_of b (slice i to s) ≡ 0
+  unfolding index_of slice
+  found_end h = let z : length (take to s) ≤ i = omega (arith, length-take to s) in rw (drop_of_length-le (take to s) z)
+
 -- what `scan::find` answers, from a place to the end of a text and in a whole one
 pub found_from : (s : List ℕ) (from b r : ℕ) → r ≡ from + index_of b (slice from (length s) s) → r ≡ from + index_of b (drop from s)
 found_from s from b r e = e ∙ ap (λ (t : List ℕ). from + index_of b t) (slice_end s from)
@@ -46,7 +66,7 @@ abbrev Begun : List ℕ → List ℕ → Type 0
 Begun w s = words_after w s ≡ ending (w ++ take (index_of 32 s) s) (words (drop (index_of 32 s) s))
 
 words_after_lem : (w s : List ℕ) → Begun w s
-unfolding words_after words index_of index_after ending
+unfolding words_after words index_of ending
 words_after_lem w [] = rw append-nil
 words_after_lem w (b ∷ s) = go (is_space b) refl (words_after_lem (w ++ b ∷ []) s)
   where
@@ -69,7 +89,7 @@ data Next (s : List ℕ) : Type 0 where
   begins : spaces s < length s → words s ≡ word s ∷ words (beyond s) → Next s
 
 next : (s : List ℕ) → Next s
-unfolding words words_after spaces index_of index_after ending
+unfolding words words_after spaces index_of ending
 next [] = blank refl refl
 next (b ∷ s) = go (is_space b) refl (next s)
   where
@@ -80,7 +100,7 @@ next (b ∷ s) = go (is_space b) refl (next s)
 
 -- spaces before the first word do not matter
 skip : (s : List ℕ) → words (start s) ≡ words s
-unfolding words words_after spaces index_of index_after ending
+unfolding words words_after spaces index_of ending
 skip [] = refl
 skip (b ∷ s) = go (is_space b) refl (skip s)
   where
@@ -157,7 +177,7 @@ module _ (s : List ℕ) (most at from to : ℕ) (f : from ≡ at + spaces (drop 
 
 -- a text that starts with a word: the word has a byte
 pub progress : (s : List ℕ) (i : ℕ) → i < length s → spaces (drop i s) ≡ 0 → 0 < index_of 32 (drop i s)
-unfolding spaces index_of index_after
+unfolding spaces index_of
 progress s i h e = rw (drop-cons s i 0 h) (go (is_space (get_or s i 0)) refl)
   where
     go : (t : Bool) → is_space (get_or s i 0) ≡ t → 0 < index_of 32 (get_or s i 0 ∷ drop (suc i) s)

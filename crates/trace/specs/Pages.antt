@@ -1,7 +1,7 @@
 -- The bytes of a page, as the last words of a line tell them.
 -- Assumes nothing.
 use Rattle.std.specs.Prelude.{cond, ◌&&◌, List, [], ◌∷◌, ℕ, suc, leb, ltb, length, take, drop, set, replicate}
-use Rattle.bytes.specs.Bytes.{index_of}
+use Rattle.trace.specs.Bytes.{index_of}
 use Rattle.trace.specs.declared.Number.{Number}
 use Rattle.trace.specs.declared.Number.TheVariants.{Value, Invalid}
 use Rattle.trace.specs.declared.Cell.{Cell}

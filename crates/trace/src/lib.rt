@@ -4,6 +4,7 @@
 mod lists;
 mod numbers;
 mod pages;
+pub mod scan;
 mod words;
 
 ghost use Rattle.std.specs.Prelude.{◌≡◌, ◌≤◌, length, drop};

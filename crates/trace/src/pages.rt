@@ -4,13 +4,13 @@ ghost use Rattle.trace.specs.Words.{words};
 ghost use Rattle.trace.specs.Pages.{zeros, told, garbled, cell_of};
 ghost use Rattle.trace.specs.Pages.{fill as Pages·fill};
 
-use crate::{Cell, Number, numbers, words};
+use crate::{Cell, Number, numbers, scan, words};
 
 // `OFFSET=BYTE` of a page of that length.
 fn cell_of(word: &[u8], long: usize) -> Cell
     ensures { result ≡ cell_of long word.now }
 {
-    let equals = bytes::scan::find(word, 0, word.len(), b'=');
+    let equals = scan::find(word, 0, word.len(), b'=');
     if equals == word.len() {
         return Cell::Malformed;
     }

@@ -1,7 +1,9 @@
 // The words of a line: what stands between spaces.
 ghost use Rattle.std.specs.Prelude.{◌≡◌, ◌+◌, ◌≤◌, length, drop};
-ghost use Rattle.bytes.specs.Bytes.{index_of};
+ghost use Rattle.trace.specs.Bytes.{index_of};
 ghost use Rattle.trace.specs.Words.{spaces, same};
+
+use crate::scan;
 
 // The first place from `at` on that holds no space.
 pub(crate) fn past_spaces(s: &[u8], at: usize) -> usize
@@ -22,7 +24,7 @@ pub(crate) fn word_end(s: &[u8], from: usize) -> usize
     ensures value { result ≡ from + index_of 32 (drop from s.now) }
     ensures upper_bound { result ≤ length s.now }
 {
-    bytes::scan::find(s, from, s.len(), b' ')
+    scan::find(s, from, s.len(), b' ')
 }
 
 pub(crate) fn is(word: &[u8], name: &[u8]) -> bool

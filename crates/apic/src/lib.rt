@@ -12,6 +12,7 @@ use vector_set::Found;
 pub mod registers;
 
 // The processor priority for a TPR and the set in service (6.17, 6.18).
+#[tactic(auto, unfolding(model::specs::Registers::ppr_of, vector_set::specs::Sets::highest))]
 pub fn ppr(tpr: u8, isr: [u32; 8]) -> u8
     ensures { result ≡ ppr_of tpr (get_or (highest isr) 0) }
 {
@@ -26,6 +27,7 @@ pub fn ppr(tpr: u8, isr: [u32; 8]) -> u8
 }
 
 // The LDR of an ID (6.16).
+#[tactic(auto, unfolding(model::specs::Registers::ldr))]
 fn ldr_of(id: u32) -> u64
     ensures { result ≡ ldr id }
 {
@@ -43,6 +45,7 @@ fn word_at(s: [u32; 8], k: u32) -> u64
 }
 
 // The value of a register that may be read (6.3 to 6.11); 0 for another number.
+#[tactic(auto, unfolding(model::specs::Registers::register_value, model::specs::Registers::ppr, model::specs::Registers::tmr))]
 pub fn register_value(v: Vcpu, id: u32, r: u32) -> u64
     ensures { result ≡ register_value id v r }
 {

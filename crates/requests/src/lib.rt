@@ -40,6 +40,7 @@ fn bad() -> Request
 }
 
 // Call 1 (5.7).
+#[tactic(auto, unfolding(model::specs::Requests::registration))]
 fn registration_of(ecx: u32) -> Request
     ensures { result ≡ registration ecx }
 {
@@ -65,6 +66,7 @@ fn read_of(r: u32) -> Request
 }
 
 // A value written to a register that may be written (6.21 to 6.24).
+#[tactic(auto, unfolding(model::specs::Requests::write_value))]
 fn value_of(r: u32, x: u64) -> Request
     ensures { result ≡ write_value r x }
 {
@@ -115,6 +117,7 @@ fn write_of(r: u32, x: u64) -> Request
 }
 
 // Call 4 (5.15 to 5.18).
+#[tactic(auto, unfolding(model::specs::Requests::permission, model::specs::Requests::nameable))]
 fn permission_of(ecx: u32) -> Request
     ensures { result ≡ permission ecx }
 {
@@ -130,6 +133,7 @@ fn permission_of(ecx: u32) -> Request
 }
 
 // Call 4 takes this ECX: it names a vector that may be named, and has no bit above 8 (5.17).
+#[tactic(auto, unfolding(model::specs::Requests::permission))]
 pub fn is_nameable(ecx: u32) -> bool
     ensures { result ≡ nameable ecx }
 {
@@ -141,6 +145,7 @@ pub fn is_nameable(ecx: u32) -> bool
 }
 
 // What a call asks for, or why it is refused before the count is looked at (5.1, 5.2, 11.14).
+#[tactic(auto, unfolding(model::specs::Requests::request_of))]
 pub fn request_of(number: u32, ecx: u32, rdx: u64) -> Request
     ensures { result ≡ request_of number ecx rdx }
 {

@@ -1,7 +1,7 @@
 -- Laws of bytes by their bits: the bytes that `bytes_from` and `map_bits` make, byte by byte and bit by bit; a stretch of a list that was replaced.
 -- Assumes nothing.
 use mathlib.Core.Path.{◌≡◌, refl, sym, ap, ◌∙◌}
-use mathlib.Core.Bool.{Bool, true, false}
+use mathlib.Core.Bool.{Bool, true, false, cond}
 use mathlib.Core.List.{List}
 use mathlib.Core.Logic.{◌⊎◌, inl, inr, ⊎_elim}
 use Prim.Native.Nat.{ℕ, ◌+◌, ◌*◌, ◌<◌, ◌≤◌}
@@ -89,3 +89,7 @@ filled xs f j l h =
     below_more (λ (i : ℕ). get_or (set xs j (f j)) i 0 ≡ f i) j
     (λ i b. get_or-set_other xs j i (f j) 0 (λ (e : i ≡ j). omega arith) ∙ h i b)
     (get_or-set_same xs j (f j) 0 l)
+
+-- byte i of what is made of d: the first four bytes of d, and zeroes
+abbrev pub front : List ℕ → ℕ → ℕ
+front d i = cond (ltb i 4) (get_or d i 0) 0

@@ -1,9 +1,10 @@
--- `doorbell::clear::clear_request` meets its contract, byte by byte. Assumes nothing.
+-- `doorbell::clear::clear_request` meets its contract, byte by byte.
 use mathlib.Core.Path.{◌≡◌, refl}
 use mathlib.Core.Bool.{Bool, true, not, ◌||◌}
 use mathlib.Core.List.{List}
 use mathlib.Core.Logic.{⊎_elim}
 use Prim.Native.Nat.{ℕ, ◌+◌, ◌*◌, ◌<◌}
+use borrow.Author.Rules.{rules}
 use native.Mathlib.Omega.{arith}
 use lib.Dec.{leb, eqb}
 use lib.ListN.{length, get_or, set, length-set}
@@ -13,9 +14,7 @@ use borrow.Author.Tests.{lt-leb, ne_eqb}
 use Rattle.vector_set.specs.Bits.{bit_at}
 use Rattle.doorbell.proofs.Bytes.{place}
 use Rattle.doorbell.proofs.ClearLaws.{Cleared, is_clearing, keeps, zeroes, masks, each8}
-use borrow.Author.Rules.{rules}
-use Rattle.doorbell.proofs.clear.clear_request.Statement.{statement}
-use Rattle.doorbell.proofs.clear.clear_request.Tie as tie
+use Rattle.doorbell.proofs.clear.clear_request.Goals as goal
 
 abbrev request : ℕ → Bool
 request k = leb k 10 || eqb k 14
@@ -41,11 +40,7 @@ byte d j l s =
     )
     (place j 1)
 
-returns : tie.Need-returns
+pub returns : goal.returns
 returns c =
-    is_clearing request c.before.args.d.now (stored c.before.args.d.now) (simp length-set)
-    (λ j l. byte c.before.args.d.now j (omega arith) (omega (arith, c.slice-known.given j)))
-
-pub clear_request_spec : {M : Type 1} → statement M
-clear_request_spec =
-    tie.close (tie.spec (λ c. search rules) (λ c. search rules) (λ c. search rules) (λ c. search rules) returns)
+    is_clearing request c.args.d.now (stored c.args.d.now) (simp length-set)
+    (λ j l. byte c.args.d.now j (omega arith) (search rules))

@@ -11,6 +11,7 @@ use vector_set::Found;
 
 // What an entry answers without a look at P: a refusal, the machine check before all else, which nothing holds back, or the NMI; `Nothing` where P
 // decides (8.2, 8.6, 8.7, 8.17, 8.18).
+#[tactic(auto, unfolding(crate::specs::Stages::answer_before))]
 pub fn answer_before(v: Vcpu, shadow: bool, blocked: bool) -> Presentation
     ensures { result ≡ answer_before shadow blocked v }
 {
@@ -28,6 +29,7 @@ pub fn answer_before(v: Vcpu, shadow: bool, blocked: bool) -> Presentation
 }
 
 // The highest pending vector in a marked word (8.20).
+#[tactic(auto, unfolding(vector_set::specs::Sets::highest, vector_set::specs::Summaries::in_marked))]
 pub fn candidate(v: Vcpu) -> Found
     ensures { vector_of result ≡ highest (in_marked v.summary v.irr) }
 {
@@ -36,6 +38,7 @@ pub fn candidate(v: Vcpu) -> Found
 }
 
 // The answer for that vector, where it is above the processor priority (8.8 to 8.13).
+#[tactic(auto, unfolding(model::specs::Events::offer_highest, model::specs::Registers::ppr))]
 pub fn answer_to(found: Found, v: Vcpu, ready: bool) -> Presentation
     ensures { result ≡ shown (offer_highest ready (ppr v) (vector_of found)) }
 {
@@ -54,6 +57,7 @@ pub fn answer_to(found: Found, v: Vcpu, ready: bool) -> Presentation
 }
 
 // An entry changes nothing and presents nothing: the vCPU is active, no item is in flight, no mark is set and no word is marked (8.24).
+#[tactic(auto, unfolding(crate::specs::Stages::rests_on))]
 pub fn rests(v: Vcpu) -> bool
     ensures { result ≡ rests_on v }
 {

@@ -6,7 +6,7 @@ ghost use Rattle.vcpu_stages.specs.Stages.{marks_after, words_after, level_words
 use model::{InFlight, Presentation, Vcpu};
 
 // The marks and what is in flight after an entry that presents no vector, and whether one of them changes.
-#[derive(Drop)]
+#[derive(Clone, Copy)]
 pub struct Marks {
     pub changes: bool,
     pub nmi: bool,
@@ -15,7 +15,7 @@ pub struct Marks {
 }
 
 // The words of a vector in P and S, and the summary of P, once it is presented.
-#[derive(Drop)]
+#[derive(Clone, Copy)]
 pub struct Words {
     pub irr: u32,
     pub isr: u32,
@@ -23,7 +23,7 @@ pub struct Words {
 }
 
 // Its words in PL and SL.
-#[derive(Drop)]
+#[derive(Clone, Copy)]
 pub struct LevelWords {
     pub irr_level: u32,
     pub isr_level: u32,
@@ -39,6 +39,7 @@ fn is_something(flight: InFlight) -> bool
 }
 
 // An entry that presents no vector, but may have presented the NMI or the machine check (8.3, 8.6, 8.14, 8.15, 8.17).
+#[tactic(auto, unfolding(crate::specs::Stages::marks_after))]
 pub fn marks_after(v: Vcpu, presentation: Presentation) -> Marks
     ensures { result ≡ marks_after presentation v }
 {
@@ -79,6 +80,7 @@ pub fn word_of(x: u8) -> usize
 }
 
 // The vector x leaves its word of P for that of S (8.11).
+#[tactic(auto, unfolding(crate::specs::Stages::words_after))]
 pub fn words_after(x: u8, irr: u32, isr: u32, summary: u8) -> Words
     ensures { result ≡ words_after x irr isr summary }
 {
@@ -92,6 +94,7 @@ pub fn words_after(x: u8, irr: u32, isr: u32, summary: u8) -> Words
 }
 
 // Its level mark goes with it (8.12).
+#[tactic(auto, unfolding(crate::specs::Stages::level_words_after))]
 pub fn level_words_after(x: u8, irr_level: u32, isr_level: u32) -> LevelWords
     ensures { result ≡ level_words_after x irr_level isr_level }
 {

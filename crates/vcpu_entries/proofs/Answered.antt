@@ -1,22 +1,16 @@
 -- An entry's answer, from what it is before P is looked at and from what P decides.
 -- Assumes nothing.
-use mathlib.Core.Path.{◌≡◌, refl, sym, ap, ◌∙◌}
+use mathlib.Core.Path.{◌≡◌, refl, ap, ◌∙◌}
 use mathlib.Core.Bool.{Bool, true, false, cond, not, ◌&&◌, ◌||◌}
-use mathlib.Core.Option.{Option, none, some}
-use Prim.Native.Nat.{ℕ}
-use lib.Dec.{leb}
-use Rattle.vector_set.specs.Sets.{highest}
-use Rattle.vector_set.specs.Summaries.{in_marked}
 use Rattle.vector_set.proofs.Laws.{clash}
 use Rattle.model.specs.declared.Item.TheVariants as item
 use Rattle.model.specs.declared.Presentation.{Presentation}
-use Rattle.model.specs.declared.Presentation.TheVariants.{Nothing, Nmi, MachineCheck, Vector, Window, Refused}
+use Rattle.model.specs.declared.Presentation.TheVariants.{Nothing, Nmi, MachineCheck, Refused}
 use Rattle.model.specs.declared.Refusal.TheVariants.{NotActive}
 use Rattle.model.specs.declared.Vcpu.{Vcpu}
 use Rattle.model.specs.State.{is_active}
 use Rattle.model.specs.Codes.{accept, need, Answer, nothing, presents, window, answers, presented_result}
-use Rattle.model.specs.Registers.{class, ppr}
-use Rattle.model.specs.Events.{entry, vcpu_verdict, offer_highest, offer_with, offer}
+use Rattle.model.specs.Events.{entry, vcpu_verdict, offer_with, offer}
 use Rattle.vcpu_stages.specs.Stages.{answered_on, shown, answer_before, vector_offer}
 
 -- an answer, as the functions give it, means itself

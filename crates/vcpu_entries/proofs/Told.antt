@@ -1,20 +1,14 @@
 -- What the arms of a `match` tell of what an entry offered.
 -- Assumes nothing.
-use mathlib.Core.Path.{◌≡◌, refl, ap}
+use mathlib.Core.Path.{◌≡◌, refl}
 use Prim.Native.Nat.{ℕ}
-use native.Mathlib.Omega.{arith}
-use mathlib.Core.List.{[], ◌∷◌}
-use mathlib.Core.Logic.{inl, inr}
-use types.Run.{OneOf}
-use denote.Enum.Declared.{tag_of}
-use Rattle.model.specs.contracts.Presentation as presentation
 use Rattle.model.specs.declared.Presentation.{Presentation}
 use Rattle.model.specs.declared.Presentation.TheVariants as shown
+use Rattle.model.specs.declared.Refusal.{Refusal}
 use Rattle.model.specs.declared.Vcpu.{Vcpu}
 use Rattle.model.specs.Codes.{Result, done, counted, coded, answers, refused, presented_result}
 use Rattle.model.specs.Requests.{forget}
 use Rattle.model.specs.Events.{entered}
-use Rattle.vector_set.proofs.Laws.{clash}
 use Rattle.vcpu.specs.Records.{VcpuOut}
 
 -- a result and the record after it
@@ -30,26 +24,12 @@ after (answers o) v = entered o (forget v)
 after (refused c) v = v
 
 -- an answer that presents nothing, and is no refusal
-pub none_shown : (r : Presentation) (v : Vcpu) → OneOf (0 ∷ 4 ∷ []) (tag_of presentation.the_type r) → forget v ≡ after (presented_result r) v
+pub none_shown : (r : Presentation) (v : Vcpu) → (r ≡ shown.Nmi → ⊥) → (r ≡ shown.MachineCheck → ⊥) → ((x : ℕ) → r ≡ shown.Vector x → ⊥)
+    → ((c : Refusal) → r ≡ shown.Refused c → ⊥) → forget v ≡ after (presented_result r) v
 unfolding entered
-none_shown shown.Nothing v e = refl
-none_shown shown.Nmi v (inl e) = clash (omega (arith, e))
-none_shown shown.Nmi v (inr e) = clash (omega (arith, e))
-none_shown shown.MachineCheck v (inl e) = clash (omega (arith, e))
-none_shown shown.MachineCheck v (inr e) = clash (omega (arith, e))
-none_shown (shown.Vector x) v (inl e) = clash (omega (arith, e))
-none_shown (shown.Vector x) v (inr e) = clash (omega (arith, e))
-none_shown (shown.Window x) v e = refl
-none_shown (shown.Refused c) v (inl e) = clash (omega (arith, e))
-none_shown (shown.Refused c) v (inr e) = clash (omega (arith, e))
-
--- an answer that is not `Nothing`
-pub not_nothing : (r : Presentation) → OneOf (1 ∷ 2 ∷ 3 ∷ 4 ∷ 5 ∷ []) (tag_of presentation.the_type r) → r ≡ shown.Nothing → ⊥
-not_nothing r k q = never (ap (tag_of presentation.the_type) q) k
-  where
-    never : {t : ℕ} → t ≡ 0 → OneOf (1 ∷ 2 ∷ 3 ∷ 4 ∷ 5 ∷ []) t → ⊥
-    never z (inl e) = omega (arith, z, e)
-    never z (inr (inl e)) = omega (arith, z, e)
-    never z (inr (inr (inl e))) = omega (arith, z, e)
-    never z (inr (inr (inr (inl e)))) = omega (arith, z, e)
-    never z (inr (inr (inr (inr e)))) = omega (arith, z, e)
+none_shown shown.Nothing v n m x f = refl
+none_shown shown.Nmi v n m x f = absurd (n refl)
+none_shown shown.MachineCheck v n m x f = absurd (m refl)
+none_shown (shown.Vector k) v n m x f = absurd (x k refl)
+none_shown (shown.Window k) v n m x f = refl
+none_shown (shown.Refused c) v n m x f = absurd (f c refl)

@@ -35,6 +35,7 @@ fn refused(c: Refusal, vcpu: Vcpu, registrations: u8) -> VcpuCalled
 }
 
 // One registration more, where there is at least one and there are at most 254 (5.11, 5.12).
+#[tactic(auto, unfolding(vcpu::specs::Records::call_on, model::specs::Events::call_effect, model::specs::Requests::serve))]
 fn register(v: Vcpu, registrations: u8) -> VcpuCalled
     ensures { called_out result ≡ call_on (serve Local.Register 0 registrations (forget v)).verdict (Request.Local Local.Register) 0 registrations v }
 {
@@ -63,6 +64,7 @@ fn self_named(v: Vcpu, id: u32, x: u8) -> u64
 }
 
 // A call that touches the caller's record and the count alone. What was in flight is forgotten first (5.3).
+#[tactic(auto, unfolding(vcpu::specs::Records::call_on, model::specs::Events::call_effect, model::specs::Requests::serve))]
 fn serve_local(v: Vcpu, id: u32, registrations: u8, o: Local) -> VcpuCalled
     ensures { called_out result ≡ call_on (serve o id registrations (forget v)).verdict (Request.Local o) id registrations v }
 {
@@ -93,6 +95,7 @@ fn serve_local(v: Vcpu, id: u32, registrations: u8, o: Local) -> VcpuCalled
 }
 
 // The value of an ICR write is stored (7.19); whom it reaches is the module's to say.
+#[tactic(auto, unfolding(vcpu::specs::Records::call_on, model::specs::Events::call_effect))]
 fn store_icr(v: Vcpu, registrations: u8, x: u64) -> VcpuCalled
     ensures { called_out result ≡ call_on accept (Request.Icr x) 0 registrations v }
 {
@@ -106,6 +109,7 @@ fn store_icr(v: Vcpu, registrations: u8, x: u64) -> VcpuCalled
 }
 
 // A guest call of the vCPU id (section 5).
+#[tactic(auto, unfolding(vcpu::specs::Records::call_on, model::specs::Events::call_effect, model::specs::Events::vcpu_verdict, model::specs::Requests::call_verdict))]
 pub fn call_vcpu(v: Vcpu, id: u32, registrations: u8, number: u32, ecx: u32, rdx: u64) -> VcpuCalled
     ensures { called_out result ≡ call_on (vcpu_verdict id registrations v (Act.call number ecx rdx)) (request_of number ecx rdx) id registrations v }
 {

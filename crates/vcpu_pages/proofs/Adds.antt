@@ -9,9 +9,15 @@ use native.Mathlib.Nat.{add_assoc}
 use lib.Bits.{bit_or}
 use lib.Dec.{eqb}
 use lib.ListN.{get_or, set}
+use mir.Syntax.{w32}
+use mir.Val.{Val}
+use denote.Laws.{Is}
+use denote.Plain.{UInt}
+use denote.Array.{Array}
 use Rattle.vector_set.specs.Bits.{one}
 use Rattle.vector_set.specs.Sets.{has, collect, empty, difference, intersection, count}
 use Rattle.vector_set.proofs.Laws.{Words, has_collect, has_empty, collect_words, collect_ext, collect_is}
+use Rattle.vector_set.proofs.WordLaws.{array_words}
 use Rattle.vector_set.proofs.Counts.{count_zero}
 use Rattle.model.specs.declared.Item.TheVariants.{Vector}
 use Rattle.model.specs.declared.Vcpu.{Vcpu}
@@ -106,6 +112,9 @@ pub record Fits (v : Vcpu) : Type 0 where
   pub irr_words : Words v.irr
   pub level_words : Words v.irr_level
   pub byte : v.summary < 2 ^ 8
+
+pub fits : (v : Vcpu) (xs ys : List Val) → Is (Array (UInt w32) 8) v.irr xs → Is (Array (UInt w32) 8) v.irr_level ys → v.summary < 2 ^ 8 → Fits v
+fits v xs ys a b c = record { irr_words = array_words v.irr xs a; level_words = array_words v.irr_level ys b; byte = c }
 
 module _ (a d : List ℕ) (v : Vcpu) (fit : Fits v) (small : get_or d 0 0 < 256) where
   abbrev x : ℕ

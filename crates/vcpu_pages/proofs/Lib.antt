@@ -1,5 +1,4 @@
 pub mod PagesLaws
-pub mod Tests
 pub mod Joins
 pub mod Marked
 pub mod Adds

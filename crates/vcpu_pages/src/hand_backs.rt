@@ -27,6 +27,7 @@ pub fn empty_vcpu(v: Vcpu) -> Vcpu
 }
 
 // VMPL, TPR, shadow and IF in one number (10.12).
+#[tactic(auto, unfolding(model::specs::Events::hand_back_result))]
 fn summary(vmpl: u32, tpr: u8, iflag: bool, shadow: bool) -> u64
     ensures { result ≡ hand_back_result vmpl tpr iflag shadow }
 {
@@ -44,6 +45,7 @@ fn hand_back_refusal(phase: Phase) -> Refusal
 }
 
 // What the record has pending and in service goes to the page (10.2 to 10.12); `empty_vcpu` is the record's step.
+#[tactic(auto, unfolding(crate::specs::Pages::hand_on, vcpu::specs::Records::page_on, model::specs::Events::handed))]
 pub fn hand_over(page: &mut [u8], vmpl: u32, v: Vcpu, iflag: bool, shadow: bool) -> Outcome
     requires { (1 ≤ vmpl) × (vmpl ≤ 3) }
     ensures { (result_of result ≡ hand_on (hand_back_verdict v.phase page.old) (hand_back_result vmpl v.tpr iflag shadow))

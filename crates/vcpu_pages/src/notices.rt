@@ -11,6 +11,7 @@ use model::{Admission, Phase, Refusal, Vcpu};
 use vcpu::VcpuNoticed;
 use vcpu::notices::{add_marks, add_request, count_marks};
 
+#[tactic(auto, unfolding(crate::specs::Pages::unchanged))]
 fn without_change(admission: Admission) -> NoticeTaken
     ensures { result ≡ unchanged admission }
 {
@@ -24,6 +25,7 @@ fn without_change(admission: Admission) -> NoticeTaken
 
 // Takes what the page asks for beside its marks, for a vCPU in the phase, with the set allowed (4.2 to 4.24, 4.31). The marks of a page with bit 14
 // are taken next, by `doorbell::take_marks`.
+#[tactic(auto, unfolding(crate::specs::Pages::take_on, crate::specs::Pages::unchanged, descriptor::specs::Requests::no_request, vcpu::specs::Records::page_on))]
 pub fn take(page: &mut [u8], vmpl: u32, phase: Phase, allowed: [u32; 8]) -> NoticeTaken
     requires { (1 ≤ vmpl) × (vmpl ≤ 3) }
     ensures { (result ≡ take_on (notice_verdict phase page.old) (taken_from vmpl allowed page.old))

@@ -1,17 +1,15 @@
--- `vcpu_pages::hand_backs::empty_vcpu` meets its contract. Assumes nothing.
+-- The record with one set for each of its sets, which is the empty one.
 use mathlib.Core.Path.{◌≡◌, sym, ap, ◌∙◌}
 use mathlib.Core.Bool.{false}
 use mathlib.Core.List.{List}
 use Prim.Native.Nat.{ℕ}
-use borrow.Author.Rules.{rules}
 use Rattle.model.specs.declared.Phase.TheVariants.{Left}
 use Rattle.vector_set.specs.Sets.{empty}
 use Rattle.model.specs.declared.Vcpu.{Vcpu}
 use Rattle.model.specs.State.{with_allowed, with_irr, with_summary, with_isr, with_irr_level, with_isr_level, with_nmi, with_machine_check, with_phase}
 use Rattle.model.specs.Events.{emptied}
 use Rattle.model.proofs.ItemLaws.{unmark_all_is}
-use Rattle.vcpu_pages.proofs.hand_backs.empty_vcpu.Statement.{statement}
-use Rattle.vcpu_pages.proofs.hand_backs.empty_vcpu.Tie as tie
+use Rattle.vcpu_pages.proofs.hand_backs.empty_vcpu.Goals as goal
 
 -- v as it is left, with s for each of its sets
 abbrev left_with : List ℕ → Vcpu → Vcpu
@@ -24,10 +22,6 @@ left_is s v w f e =
     f ∙ ap (λ (s : List ℕ). left_with s v) e
     ∙ ap (λ (u : Vcpu). with_phase Left (with_isr_level empty (with_irr_level empty (with_isr empty (with_allowed empty u))))) (sym (unmark_all_is v))
 
-returns : tie.Need-returns
+pub returns : goal.returns
 returns c =
-    let n = c.before in
-    left_is n.no-vectors.result n.before.args.v c.with-phase.result c.with-phase.ensures n.no-vectors.ensures
-
-pub empty_vcpu_spec : {M : Type 1} → statement M
-empty_vcpu_spec = tie.close (tie.spec (λ c κs. search rules) (λ c κs. search rules) returns)
+    left_is c.no_vectors-none.result c.args.v c.with_phase.result c.with_phase.ensures c.no_vectors-none.ensures

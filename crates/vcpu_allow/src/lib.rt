@@ -31,6 +31,7 @@ fn refused(c: Refusal, allowed: [u32; 8]) -> Listed
 }
 
 // The code of one value (5.17, 5.18, 5.29).
+#[tactic(auto, unfolding(crate::specs::Values::value_code))]
 fn value_code(ecx: u32) -> u32
     ensures { result ≡ value_code ecx }
 {
@@ -42,6 +43,7 @@ fn value_code(ecx: u32) -> u32
 }
 
 // The word of the value's vector, with the vector put in or taken out (5.16).
+#[tactic(auto, unfolding(crate::specs::Values::permitted_word))]
 fn permit_word(word: u32, ecx: u32) -> u32
     ensures { result ≡ permitted_word ecx word }
 {

@@ -14,13 +14,13 @@ use Prim.Native.Nat.{ℕ, zero}
 use mathlib.Core.List.{List, [], ◌∷◌, ◌++◌}
 use mathlib.Core.Option.{Option, none, some as full}
 use seplogic.Ra.Ura.{Ura}
-use seplogic.Ra.TreeShare.{full_share}
+use base.Fraction.{full_share}
 use lib.Dec.{T as Holds}
 use mir.Syntax.{Ty, Local, local, place, copy, Rv as RValue, Body, seq, assign}
 use mir.Val.{Val, WT, has_ty}
 use base.Logic.{SProp, ent, sep, wand, emp, id⊢, via, comm∗, mono_l, mono_r, fst∗, emp∗, all_i, wand_i}
 use base.Fml.{Fml, Share, ftrue, ffalse, feq, flt, fsep, fand, for, fwand, fex, fall, fupd, fat, froom, fdies, flft, fdead, fobs, fauth, fres, fbor}
-use base.Fml.{fobor, flent, fshr_bor}
+use base.Fml.{fobor, flent, fshr_bor, fhide, fleft, fown, finv, fnamed, ftok, fkid, fme, fsent}
 use prog.Wp.{Heap, Env, Calls, Loops, Spot, spot_of, alloc, release}
 use types.Logic.{Logic}
 use types.Kit.{Item, ‵, raw, ◌⊛◌, some, given, later, mean, ⋆, nth, put, pop, push, ++⊢, ⊢++, Post, Goal, runs, lands, allocs, frees, aim}
@@ -69,6 +69,15 @@ inside (fbor κ P) = none
 inside (fobor κ q P) = none
 inside (flent κ P) = none
 inside (fshr_bor κ P) = none
+inside (fhide P) = none
+inside (fleft γ a b c d) = none
+inside (fown R x y) = none
+inside (finv P) = none
+inside (fnamed x y) = none
+inside (ftok x) = none
+inside (fkid x y) = none
+inside (fme x) = none
+inside (fsent x) = none
 
 module _ {M : Type 1} {𝓤 : Ura M} where
   abbrev holds : Item 𝓤 → Option Val

@@ -1,4 +1,0 @@
-pub mod Names
-pub mod Over
-pub mod Results
-pub mod Thin

@@ -49,24 +49,6 @@ module _ (c : ℕ) (s : List ℕ) where
       go true false = words_remove (c % 256) s
       go false b = w
 
--- its word, as the code computes it
-pub word_in : (c w : ℕ) → bit_at c 8 ≡ true → bit_or w ((1 * 2 ^ (c % 256 % 32)) % 2 ^ 32) ≡ permitted_word c w
-unfolding permitted_word
-word_in c w e = rw (e, one_shl (c % 256 % 32) (omega arith))
-
-pub word_out : (c w : ℕ) → bit_at c 8 ≡ false → bit_and w ((2 ^ 32 - 1) - (1 * 2 ^ (c % 256 % 32)) % 2 ^ 32) ≡ permitted_word c w
-unfolding permitted_word
-word_out c w e = rw (e, one_shl (c % 256 % 32) (omega arith))
-
--- its code, by whether it may be named
-pub code_taken : (c : ℕ) → nameable c ≡ true → 0 ≡ value_code c
-unfolding value_code
-code_taken c e = rw e
-
-pub code_refused : (c r : ℕ) → nameable c ≡ false → r ≡ code_of BadParameter → r ≡ value_code c
-unfolding value_code
-code_refused c r e f = rw e f
-
 -- the code 0 says that it is accepted
 pub code_zero : (c : ℕ) → value_code c ≡ 0 → nameable c ≡ true
 unfolding value_code

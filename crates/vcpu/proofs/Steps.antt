@@ -40,7 +40,7 @@ vmpl_in m i = pick (leb m.n 32) (leb 1 m.vmpl) (leb m.vmpl 3) refl refl
     pick false b c e f h = absurd (not-suc-le-zero h)
 
 -- ---- a record read from the array
--- a module of a parameter (`c.good`) has 32 records
+-- a module of a parameter (`c.well_formed`) has 32 records
 pub records_32 : (m : Module) (vs : List Val) → Is modules.the_row m vs → length m.vcpus ≡ 32
 records_32 m vs p = p.1.1.1.1.1.0.1.0.1
 

@@ -1,8 +1,8 @@
 -- A set by its eight words: what code that works on whole words gives, as sets of vectors.
 -- Assumes nothing.
-use mathlib.Core.Path.{◌≡◌, refl, sym, ap, ap₂, ◌∙◌, subst}
+use mathlib.Core.Path.{◌≡◌, refl, sym, ap, ap₂, ◌∙◌}
 use mathlib.Core.Bool.{Bool, true, false, not, ◌&&◌, ◌||◌, and_comm, or_comm}
-use mathlib.Core.List.{List, [], ◌∷◌, map, map-id}
+use mathlib.Core.List.{List, [], ◌∷◌}
 use mathlib.Core.Option.{some}
 use Prim.Native.Nat.{ℕ, zero, suc, ◌+◌, ◌-◌, ◌*◌, ◌/◌, ◌%◌, ◌^◌, ◌<◌, ◌≤◌}
 use native.Mathlib.Omega.{arith}
@@ -26,13 +26,9 @@ use Rattle.vector_set.specs.Sets.{has, words, collect, insert, remove, union, di
 use Rattle.vector_set.proofs.Laws.{Words, has_word, words_at, collect_words, highest_is}
 
 -- ---- arrays of the code
--- an array [u32; 8] of a parameter (`c.good`) or of a call's result (`.ok`) is eight words
+-- an array [u32; 8] of a parameter or of its fields (`c.well_formed`), or of a call's result (`.type_inv`), is eight words
 pub array_words : (s : List ℕ) (vs : List Val) → Is (Array (UInt w32) 8) s vs → Words s
 array_words s vs p = record { eight = p.1.0.1; small = λ i l. (elem_Fits w32 w32 s p.0 i p.1.1 tt).fits }
-
--- the same where the array is a field of a struct
-pub field_words : (s : List ℕ) (vs : List Val) → Is (Array (UInt w32) 8) (map (λ (x : ℕ). x) s) vs → Words s
-field_words s vs p = array_words s vs (subst (λ (xs : List ℕ). Is (Array (UInt w32) 8) xs vs) (map-id s) p)
 
 -- a constant index is below 8, as code asks that reads words one by one: `at tt`
 pub at : {A : Type 0} {k : ℕ} → Holds (ltb k 8) → A → k < 8

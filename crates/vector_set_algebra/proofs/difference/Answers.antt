@@ -1,5 +1,5 @@
 -- `vector_set_algebra::difference` meets its contract: each word is the and of one and the complement of the other. Assumes nothing.
-use Rattle.vector_set.proofs.WordLaws.{array_words, difference_words, at}
+use Rattle.vector_set.proofs.WordLaws.{array_words, difference_words}
 use Rattle.vector_set_algebra.proofs.difference.Goals as goal
 
 pub returns : goal.returns

@@ -1,5 +1,5 @@
 -- `vector_set_algebra::intersection` meets its contract: each word is the and of two. Assumes nothing.
-use Rattle.vector_set.proofs.WordLaws.{array_words, intersection_words, at}
+use Rattle.vector_set.proofs.WordLaws.{array_words, intersection_words}
 use Rattle.vector_set_algebra.proofs.intersection.Goals as goal
 
 pub returns : goal.returns

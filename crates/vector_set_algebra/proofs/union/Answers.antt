@@ -1,5 +1,5 @@
 -- `vector_set_algebra::union` meets its contract: each word is the or of two. Assumes nothing.
-use Rattle.vector_set.proofs.WordLaws.{array_words, union_words, at}
+use Rattle.vector_set.proofs.WordLaws.{array_words, union_words}
 use Rattle.vector_set_algebra.proofs.union.Goals as goal
 
 pub returns : goal.returns

@@ -3,35 +3,25 @@
 use mathlib.Core.Path.{◌≡◌, refl, sym, ap, ◌∙◌}
 use mathlib.Core.Bool.{Bool, true, false, cond, ◌&&◌}
 use mathlib.Core.List.{List, [], ◌∷◌}
-use mathlib.Core.Logic.{inl, inr}
 use Prim.Native.Nat.{ℕ, zero, suc, ◌-◌, ◌≤◌, ◌<◌}
 use native.Mathlib.Omega.{arith}
 use native.Mathlib.Nat.{not-suc-le-zero, le_of_suc-le-suc}
 use lib.Dec.{eqb, ltb}
-use lib.ListN.{length, get_or, length-map}
-use mir.Val.{Val}
-use denote.Laws.{Is}
-use Rattle.model.specs.contracts.Module as modules
+use lib.ListN.{length, get_or}
 use Rattle.model.specs.declared.Vcpu.{Vcpu}
 use borrow.Author.Tests.{lt-ltb, le-ltb}
-use types.Run.{OneOf}
-use denote.Enum.Declared.{tag_of}
 use Rattle.model.specs.declared.Module.{Module}
+use Rattle.model.specs.declared.Outcome.{Outcome}
 use Rattle.model.specs.State.{vcpu_at}
 use Rattle.trace.specs.Words.{ascii}
-use Rattle.console.specs.contracts.Answer as row
 use Rattle.console.specs.declared.Answer.{Answer}
 use Rattle.console.specs.declared.Answer.TheVariants as answer
-use Rattle.vector_set.proofs.Laws.{clash}
 use Rattle.console_lines.specs.Lines.{plain_line, start_line, module_line, vcpu_line, state_line}
 
 -- an answer that is no outcome
-pub plain_start : (a : Answer) → OneOf (0 ∷ 2 ∷ 3 ∷ 4 ∷ []) (tag_of row.the_type a) → plain_line (ascii "start") a ≡ start_line a
+pub plain_start : (a : Answer) → ((o : Outcome) → a ≡ answer.Outcome o → ⊥) → plain_line (ascii "start") a ≡ start_line a
 plain_start answer.Nothing e = refl
-plain_start (answer.Outcome o) (inl e) = clash (omega (arith, e))
-plain_start (answer.Outcome o) (inr (inl e)) = clash (omega (arith, e))
-plain_start (answer.Outcome o) (inr (inr (inl e))) = clash (omega (arith, e))
-plain_start (answer.Outcome o) (inr (inr (inr e))) = clash (omega (arith, e))
+plain_start (answer.Outcome o) e = absurd (e o refl)
 plain_start (answer.Admission a) e = refl
 plain_start (answer.Presentation p) e = refl
 plain_start (answer.Asked b) e = refl
@@ -53,10 +43,7 @@ module _ (m : Module) (k : ℕ) (later : eqb k 0 ≡ false) where
   pub vcpu_beyond : 32 ≤ k - 1 → [] ≡ state_line m k
   vcpu_beyond h = known_as false (rw (le-ltb (k - 1) 32 h) refl)
 
--- a module has 32 records, and one of them does not depend on the default that it is read with
-pub records_32 : (m : Module) (vs : List Val) → Is modules.the_row m vs → length m.vcpus ≡ 32
-records_32 m vs p = sym (length-map m.vcpus _) ∙ p.1.1.1.1.1.0.1.0.1
-
+-- a record of a module does not depend on the default that it is read with
 get_d_any : (l : List Vcpu) (i : ℕ) (d e : Vcpu) → i < length l → get_or l i d ≡ get_or l i e
 get_d_any [] i d e h = absurd (not-suc-le-zero h)
 get_d_any (v ∷ l) zero d e h = refl

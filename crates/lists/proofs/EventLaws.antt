@@ -2,7 +2,7 @@
 -- Assumes nothing.
 use mathlib.Core.Path.{◌≡◌, refl, sym, ap, ap₂, ◌∙◌, subst}
 use mathlib.Core.Bool.{Bool, true, false, not, ◌&&◌, ◌||◌, and-true, and-false, and_comm, or-false}
-use mathlib.Core.Option.{Option, none, some}
+use mathlib.Core.Option.{Option, none}
 use Prim.Native.Nat.{ℕ, ◌+◌}
 use native.Mathlib.Omega.{arith}
 use lib.Dec.{ltb, eqb}
@@ -20,15 +20,15 @@ use Rattle.model.specs.declared.Module.{Module}
 use Rattle.model.specs.State.{is_active, is_in_flight, size, vcpu_at}
 use Rattle.model.specs.Codes.{code_of, accept, refuse, Result, refused, accepted, presented_by, presented_in}
 use Rattle.model.specs.Items.{InRange, same_item, is_item, item_in_flight}
-use Rattle.model.specs.Doorbell.{Part, in_part, admitted}
+use Rattle.model.specs.Doorbell.{in_part, admitted}
 use Rattle.model.specs.Ipi.{icr_item, icr_target, hits}
 use Rattle.model.specs.Requests.{request_of}
 use Rattle.model.specs.Events.{Act, notice, call, entry, non_delivery, hand_back, allow, at, Bytes, Event, offer, verdict, call_effect, effect, concluded, step}
 use Rattle.model.specs.Causes.{is_non_delivery, is_hand_back}
 use Rattle.lists.specs.Book.{BookRecord, book_of, part_by}
-use Rattle.lists.specs.Ledger.{Waiting, after_arrival, Ledger, tally, add_admitted, add_sent, add_presented, add_returned, add_handed_back, with_latest}
+use Rattle.lists.specs.Ledger.{Waiting, after_arrival, Ledger, tally, add_presented, add_returned, add_handed_back, with_latest}
 use Rattle.lists.specs.Ledger.{requests, reaches, write_sends, post_act}
-use Rattle.lists.specs.Sums.{arrivals, requested_by, requests_at, returns_at, presents_at, hands_back_at, EventAdds}
+use Rattle.lists.specs.Sums.{requested_by, requests_at, returns_at, presents_at, hands_back_at, EventAdds}
 use Rattle.vector_set.specs.Bits.{one}
 use Rattle.vector_set.proofs.Laws.{clash}
 use Rattle.model.proofs.Stored.{by_verdict_lem, Known, known_of}

@@ -23,7 +23,7 @@ use Rattle.model.specs.Codes.{accept, refuse, need}
 use Rattle.model.specs.Registers.{kind_of, ended_at, ended}
 use Rattle.model.specs.Ipi.{icr_legal}
 use Rattle.model.specs.Requests.{bad, registration, read_by, write_value, write_by, nameable, permission, request_of, forget, leave_if, serve, call_verdict}
-use Rattle.model.specs.Events.{verdict, call_effect, concluded}
+use Rattle.model.specs.Events.{call_effect, concluded}
 use Rattle.lists.specs.Book.{BookRecord, Book, record_of, book_of, record_at, with_record, with_count, with_phase}
 use Rattle.lists.specs.Book.{leaves_at_zero, takes_one, adds_one, registers, permits, called}
 use Rattle.vector_set.specs.Bits.{bit_at}

@@ -19,8 +19,8 @@ use Rattle.model.specs.declared.Request.TheVariants as request
 use Rattle.model.specs.declared.Vcpu.{Vcpu}
 use Rattle.model.specs.declared.Module.{Module}
 use Rattle.model.specs.State.{is_active, is_in_flight, size, vcpu_at, with_vcpu}
-use Rattle.model.specs.Codes.{accept, Answer, nothing, presents, window, Result, done, counted, refused, accepted}
-use Rattle.model.specs.Codes.{presented_in, presented_by}
+use Rattle.model.specs.Codes.{accept, Answer, nothing, presents, window, Result, accepted}
+use Rattle.model.specs.Codes.{presented_in}
 use Rattle.model.specs.Items.{InRange, same_item, is_item, item_in_flight, pending, unmark_all}
 use Rattle.model.specs.Doorbell.{Part, in_part, admitted}
 use Rattle.model.specs.Ipi.{icr_item, icr_target, hits, reach, sent}

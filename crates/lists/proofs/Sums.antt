@@ -21,7 +21,7 @@ use Rattle.model.specs.Events.{notice, call, at, Bytes, Event, items_merged, eff
 use Rattle.model.specs.Demand2.{writes_icr, sends_self}
 use Rattle.lists.specs.Book.{book_of, part_by}
 use Rattle.lists.specs.Lists.{results, names}
-use Rattle.lists.specs.Ledger.{Ledger, tally, add_sent, requests, write_sends, post_act, opened, ledger, ledger_of}
+use Rattle.lists.specs.Ledger.{Ledger, add_sent, requests, write_sends, post_act, opened, ledger, ledger_of}
 use Rattle.lists.specs.Sums.{arrivals, settled, more, is_accepted, requests_at, returns_at, presents_at, hands_back_at, EventAdds, grew, BalancedAny, Sums}
 use Rattle.vector_set.specs.Bits.{one, bit_at}
 use Rattle.vector_set.proofs.Laws.{clash}

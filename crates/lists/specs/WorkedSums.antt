@@ -11,7 +11,7 @@ use Rattle.model.specs.Events.{notice, call, non_delivery, hand_back, allow, at,
 use Rattle.model.specs.Cases.{same_numbers, zeros, announcing, byte64, every}
 use Rattle.model.specs.Worked.{icr, enters}
 use Rattle.lists.specs.Lists.{results, pages}
-use Rattle.lists.specs.Ledger.{Ledger, requests, ledger_of}
+use Rattle.lists.specs.Ledger.{requests, ledger_of}
 use Rattle.lists.specs.WorkedList.{same_results, same_pages, tells_of, story, pair, check_story, value_story}
 use Rattle.vector_set.specs.Bits.{one}
 

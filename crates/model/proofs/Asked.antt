@@ -10,7 +10,6 @@ use lib.Dec.{ltb}
 use borrow.Author.Tests.{lt-ltb, le-ltb}
 use Rattle.model.specs.declared.InFlight.{InFlight}
 use Rattle.model.specs.declared.InFlight.TheVariants as flight
-use Rattle.model.specs.declared.Item.{Item}
 use Rattle.model.specs.declared.Item.TheVariants as item
 use Rattle.model.specs.declared.Vcpu.{Vcpu}
 use Rattle.model.specs.declared.Module.{Module}
@@ -20,7 +19,7 @@ use Rattle.model.specs.Codes.{accept, need, Verdict, refuse, Answer, nothing, pr
 use Rattle.model.specs.Items.{put_irr}
 use Rattle.model.specs.Requests.{forget}
 use Rattle.model.specs.Registers.{ppr}
-use Rattle.model.specs.Events.{entry, at, Bytes, offer_highest, offer_with, offer, entered, vcpu_verdict, verdict, effect, Out, concluded, decided, step}
+use Rattle.model.specs.Events.{entry, at, offer_highest, offer_with, offer, entered, vcpu_verdict, verdict, effect, Out, concluded, decided, step}
 use Rattle.model.specs.Events.{final, is_some, would_present}
 use Rattle.model.specs.SummaryClaims.{Summed, offered, SummaryClaims}
 use Rattle.vector_set.specs.Bits.{bit_at}

@@ -25,7 +25,7 @@ use Rattle.model.specs.Items.{InRange, same_item, pending, mark}
 use Rattle.model.specs.Registers.{is_read, is_write, is_both, kind_of}
 use Rattle.model.specs.Requests.{bad, write_value, request_of, forget, serve, call_verdict}
 use Rattle.model.specs.Ipi.{icr_type, icr_vector, icr_item, icr_target, hits, reached, reach, new_bits}
-use Rattle.model.specs.Events.{call, at, vcpu_verdict, verdict, call_effect, effect, effect_of, concluded, step, next}
+use Rattle.model.specs.Events.{call, vcpu_verdict, verdict, call_effect, effect, effect_of, concluded, step, next}
 use Rattle.model.specs.Demand2.{writes_icr, sends_self}
 use Rattle.model.proofs.Stored.{on_put, get_put, vcpu_at_count, vcpu_at_sent, size_put, size_count, size_le, needed, by_verdict_lem, Known, known_of}
 use Rattle.model.proofs.ItemLaws.{pending_mark}

@@ -4,7 +4,7 @@ use mathlib.Core.Path.{◌≡◌, refl, sym, ap, ap₂, ◌∙◌, subst}
 use mathlib.Core.Bool.{Bool, true, false, cond, ◌&&◌}
 use mathlib.Core.List.{List, [], ◌∷◌, ◌++◌}
 use mathlib.Core.Option.{none}
-use Prim.Native.Nat.{ℕ, zero, suc, ◌+◌, ◌%◌, ◌≤◌, ◌<◌}
+use Prim.Native.Nat.{ℕ, zero, suc, ◌%◌, ◌≤◌, ◌<◌}
 use native.Mathlib.Omega.{arith}
 use lib.Dec.{leb, ltb}
 use lib.ListN.{length, get_or, drop}
@@ -26,7 +26,7 @@ use Rattle.model.specs.Events.{list_codes, effect, Out, concluded, step, next, r
 use Rattle.model.specs.Demand2.{singles, codes_of}
 use Rattle.model.proofs.Stored.{get_put, put_same, put_put, put_length, size_put, count_same, by_verdict_lem, Known}
 use Rattle.model.proofs.Stored.{known_of}
-use Rattle.model.proofs.IcrWrites.{over, asks, by_request}
+use Rattle.model.proofs.IcrWrites.{over, by_request}
 use Rattle.model.proofs.ListLaws.{after_one}
 
 -- ---- one value

@@ -20,7 +20,6 @@ use Rattle.model.specs.Codes.{code_of, Verdict, accept, refuse, need}
 use Rattle.model.specs.Registers.{within, is_read, is_write, is_both, kind_of}
 use Rattle.model.specs.Ipi.{icr_legal}
 use Rattle.model.specs.Requests.{bad, registration, read_by, write_by, write_value, nameable, permission, request_of, serve, call_verdict}
-use Rattle.model.specs.Events.{call, at}
 use Rattle.model.specs.Causes.{cause, first_cause, in_table, bad_value, allowable, bad_ecx, is_kind_none, is_kind_read, is_kind_write}
 use Rattle.model.specs.Causes.{call_causes}
 use Rattle.vector_set.specs.Bits.{bit_at}

@@ -9,7 +9,7 @@ use Rattle.model.specs.declared.Phase.{Phase}
 use Rattle.model.specs.declared.Vcpu.{Vcpu}
 use Rattle.model.specs.declared.Module.{Module}
 use Rattle.model.specs.State.{bare, fresh, absent, vcpu_at, may_start, started, stopped, start}
-use Rattle.model.specs.Ipi.{icr_item, reach}
+use Rattle.model.specs.Ipi.{icr_item}
 use Rattle.model.specs.Events.{Event, Reply, gives, sends, effect, next, final}
 use Rattle.vector_set.proofs.Laws.{words_empty}
 use Rattle.model.proofs.Stays.{MarksKeep, record_keeps, list_keeps}

@@ -23,7 +23,7 @@ use Rattle.model.specs.Items.{IsVector, item_in_flight, mark, unmark, mark_all, 
 use Rattle.model.specs.Doorbell.{Part, is_level, in_part, admitted}
 use Rattle.model.specs.Registers.{ppr, class, ended_at, ended}
 use Rattle.model.specs.Ipi.{icr_item}
-use Rattle.model.specs.Requests.{may_name, nameable, request_of, forget, leave_if, serve}
+use Rattle.model.specs.Requests.{may_name, request_of, forget, leave_if, serve}
 use Rattle.model.specs.Events.{Act, notice, call, entry, non_delivery, hand_back, allow, Bytes, noticed, offer_highest, offer_with, offer, present}
 use Rattle.model.specs.Events.{entered, give_back, undelivered, emptied, Reply, gives, sends, call_effect, effect}
 use Rattle.model.specs.Reached.{Levelled, Summarised, Sound}

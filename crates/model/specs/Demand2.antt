@@ -11,7 +11,7 @@ use Rattle.model.specs.declared.InFlight.TheVariants.{Nothing}
 use Rattle.model.specs.declared.Vcpu.{Vcpu}
 use Rattle.model.specs.declared.Module.{Module}
 use Rattle.model.specs.State.{is_active, size, vcpu_at, start, with_vcpu, with_machine_check, with_icr}
-use Rattle.model.specs.Codes.{Answer, presents, done, counted, answers, coded, refusal_of, code_in, presented_in}
+use Rattle.model.specs.Codes.{Answer, done, counted, answers, coded, refusal_of, code_in, presented_in}
 use Rattle.model.specs.Items.{InRange, is_item, item_count, item_in_flight, pending}
 use Rattle.model.specs.Doorbell.{bit_of, announces, descriptor, map_bits, announcing_bit, Part, is_level, in_part, admitted, items}
 use Rattle.model.specs.Registers.{within}

@@ -5,10 +5,10 @@ mod descriptors;
 
 use console::input::next_event;
 use console::{
-    Answer, Chunk, LINE_ROOM, LIST_ROOM, LineRoom, ListRoom, PageRoom, blank_codes, first_values,
-    front,
+    Answer, CHUNK_BYTES, Chunk, LINE_ROOM, LIST_ROOM, LineRoom, ListRoom, PAGE_ROOM, PageRoom,
+    blank_codes, first_values, front,
 };
-use descriptors::{advance, report};
+use descriptors::{Streams, advance, report};
 use model::{Entered, Module, Noticed, Stepped};
 use trace::Event;
 
@@ -120,6 +120,7 @@ fn play(
 // A proved loop has to end, and nothing says that the input does: the turns are counted down from a number that no input
 // uses up.
 fn run(
+    streams: Streams,
     first: Module,
     chunk: &mut Chunk,
     line: &mut LineRoom,
@@ -132,12 +133,12 @@ fn run(
     let mut session = console::begin();
     let mut turns = u64::MAX;
     while turns > 0 {
-        session = advance(chunk, line, session);
+        session = advance(streams, chunk, line, session);
         let event = next_event(line, page, values, session);
         let played = play(module, page, values, codes, event);
         module = played.module;
         let answer = played.answer;
-        session = report(out, page, codes, session, event, answer, module);
+        session = report(streams, out, page, codes, session, event, answer, module);
         if !session.open {
             return;
         }
@@ -145,16 +146,22 @@ fn run(
     }
 }
 
-fn main() {
-    let mut chunk = io::large_buffer();
+fn main(rt: HostRuntime) {
+    let streams = Streams {
+        input: rt.stdin(),
+        output: rt.stdout(),
+        errors: rt.stderr(),
+    };
+    let mut chunk = [0u8; CHUNK_BYTES];
     let mut line = [0u8; LINE_ROOM];
-    let mut page = io::buffer();
+    let mut page = [0u8; PAGE_ROOM];
     let mut values = [0u32; LIST_ROOM];
     let mut codes = [0u32; LIST_ROOM];
-    let mut out = io::large_buffer();
+    let mut out = [0u8; CHUNK_BYTES];
     let first = gate_start::start(0, 0);
     let module = first.after;
     run(
+        streams,
         module,
         &mut chunk,
         &mut line,

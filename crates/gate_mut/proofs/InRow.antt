@@ -4,7 +4,8 @@
 --     row, changes                 the array after the stores fs to its record i; a record after the changes fs
 --     row_is                       the array is the one with the record changed once
 --     is_here                      the record that the code reads is the module's
---     puts_row                     the module after stores in a row
+--     puts_read, puts_row          the module after stores in a row, by the record that is read, and by the module's
+--     read_row                     the record that is read after them
 --     long_put, other_put          after a store it has as many records, and any other record is as it was
 -- Assumes nothing.
 use mathlib.Core.Path.{◌≡◌, refl, ap, ◌∙◌}
@@ -57,12 +58,20 @@ module _ (m : Module) (i : ℕ) (there : i < length m.vcpus) where
   unfolding vcpu_at
   is_here = same_default m.vcpus i unread absent there
 
-  -- the changes fs, of which the first is f, leave the record v
-  pub puts_row : (f : Vcpu → Vcpu) (fs : List (Vcpu → Vcpu)) (v : Vcpu) → changes (f ∷ fs) (vcpu_at m i) ≡ v → with_vcpus m (row i (f ∷ fs) m.vcpus) ≡ with_vcpu m i v
+  -- the changes f and fs leave the record v
+  pub puts_read : (f : Vcpu → Vcpu) (fs : List (Vcpu → Vcpu)) (v : Vcpu) → changes (f ∷ fs) (get_or m.vcpus i unread) ≡ v
+      → with_vcpus m (row i (f ∷ fs) m.vcpus) ≡ with_vcpu m i v
   unfolding with_vcpu
-  puts_row f fs v e =
-      ap (with_vcpus m)
-      (row_is m.vcpus i f fs there ∙ ap (λ (u : Vcpu). set m.vcpus i (changes (f ∷ fs) u)) is_here ∙ ap (set m.vcpus i) e)
+  puts_read f fs v e = ap (with_vcpus m) (row_is m.vcpus i f fs there ∙ ap (set m.vcpus i) e)
+
+  pub puts_row : (f : Vcpu → Vcpu) (fs : List (Vcpu → Vcpu)) (v : Vcpu) → changes (f ∷ fs) (vcpu_at m i) ≡ v
+      → with_vcpus m (row i (f ∷ fs) m.vcpus) ≡ with_vcpu m i v
+  puts_row f fs v e = puts_read f fs v (ap (changes (f ∷ fs)) is_here ∙ e)
+
+  pub read_row : (f : Vcpu → Vcpu) (fs : List (Vcpu → Vcpu)) → get_or (row i (f ∷ fs) m.vcpus) i unread ≡ changes (f ∷ fs) (get_or m.vcpus i unread)
+  read_row f fs =
+      ap (λ (l : List Vcpu). get_or l i unread) (row_is m.vcpus i f fs there)
+      ∙ get_or-set_same m.vcpus i (changes (f ∷ fs) (get_or m.vcpus i unread)) unread there
 
 pub long_put : (m : Module) (i : ℕ) (v : Vcpu) → length (with_vcpu m i v).vcpus ≡ length m.vcpus
 unfolding with_vcpu

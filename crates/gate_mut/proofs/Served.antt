@@ -1,12 +1,15 @@
 -- The test of a vCPU's number by the count that the module is answered with.
 --     within, beyond      the number is below the count; it is not
 --     has_record, there   a vCPU of the module has a record in the array
+--     off, on             what a test of `!b` says of b
 -- Assumes nothing.
 use mathlib.Core.Path.{◌≡◌, refl, ◌∙◌}
+use mathlib.Core.Bool.{Bool, true, false, not}
 use Prim.Native.Nat.{ℕ, ◌<◌, ◌≤◌}
 use native.Mathlib.Omega.{arith}
 use lib.ListN.{length}
 use borrow.Struct.Parts.{StructFacts}
+use Rattle.vector_set.proofs.BitLaws.{clash}
 use Rattle.model.specs.declared.Module.{Module}
 use Rattle.model.specs.contracts.Module as modules
 use Rattle.model.proofs.Module.TheLaws as of_modules
@@ -33,3 +36,11 @@ module _ (m : Module) (i : ℕ) where
 
 pub counted : (m : Module) {n : ℕ} → n ≡ served_count m.n m.vmpl → n ≡ size m
 counted m e = e ∙ size_is m
+
+pub off : (b : Bool) → not b ≡ true → b ≡ false
+off true e = clash (cc)
+off false e = refl
+
+pub on : (b : Bool) → not b ≡ false → b ≡ true
+on true e = refl
+on false e = clash (cc)

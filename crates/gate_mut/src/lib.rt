@@ -1,2 +1,2 @@
-// Proofs alone: what stores to a module lent by `&mut` leave.
+// Proofs alone: the steps of which the walks of functions over `&mut Module` are made.
 #![tactic(auto)]

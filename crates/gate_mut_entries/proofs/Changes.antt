@@ -1,9 +1,11 @@
 -- One record of a module changed (`changed_at`), from what a walk has stored.
---     changed-none       there is no such vCPU, and nothing is stored
---     changed-one        the record u is stored
+--     changed_none       there is no such vCPU, and nothing is stored
+--     changed_one        the record u is stored
+--     changed_row        the record is changed by stores in a row
 --     changed_then       it is stored, and the record changed once more
 -- Assumes nothing.
-use mathlib.Core.Path.{◌≡◌, sym, ap, ◌∙◌}
+use mathlib.Core.Path.{◌≡◌, refl, sym, ap, ◌∙◌}
+use mathlib.Core.List.{List, ◌∷◌}
 use mathlib.Core.Bool.{Bool, cond}
 use Prim.Native.Nat.{ℕ, ◌<◌, ◌≤◌}
 use lib.Dec.{ltb}
@@ -13,7 +15,8 @@ use Rattle.model.specs.State.{size, vcpu_at, with_vcpu}
 use Rattle.model.specs.declared.Module.{Module}
 use Rattle.model.specs.declared.Vcpu.{Vcpu}
 use Rattle.model.proofs.Stored.{size_put}
-use Rattle.vcpu.proofs.Stores.{get_put, put_put}
+use Rattle.vcpu.proofs.Stores.{with_vcpus, get_put, put_put}
+use Rattle.gate_mut.proofs.InRow.{row, changes, puts_row}
 use Rattle.gate_mut_entries.specs.Steps.{changed_at}
 
 -- by what the test says
@@ -31,3 +34,7 @@ pub changed_then : (h : Module) (i : ℕ) (f g : Vcpu → Vcpu) → i < size h �
 changed_then h i f g l there u e =
     ap (chosen (with_vcpu h i u) i f) (ap (ltb i) (size_put h i u) ∙ lt-ltb i (size h) l)
     ∙ ap (λ (v : Vcpu). with_vcpu (with_vcpu h i u) i (f v)) (get_put h i u there) ∙ put_put h i u (f u) ∙ changed_one h i g l (f u) e
+
+pub changed_row : (h : Module) (i : ℕ) → i < size h → i < length h.vcpus → (f : Vcpu → Vcpu) (fs : List (Vcpu → Vcpu)) (g : Vcpu → Vcpu)
+    → changes (f ∷ fs) (vcpu_at h i) ≡ g (vcpu_at h i) → with_vcpus h (row i (f ∷ fs) h.vcpus) ≡ changed_at i g h
+changed_row h i l there f fs g e = puts_row h i there f fs _ refl ∙ changed_one h i g l _ e

@@ -66,6 +66,22 @@ NotNothing (Vector x) = Unit {0}
 NotNothing (Window x) = Unit {0}
 NotNothing (Refused c) = Unit {0}
 
+pub no_vector : (p : Presentation) → ((x : ℕ) → p ≡ Vector x → ⊥) → NoVector p
+no_vector Nothing h = tt
+no_vector Nmi h = tt
+no_vector MachineCheck h = tt
+no_vector (Vector x) h = h x refl
+no_vector (Window x) h = tt
+no_vector (Refused c) h = tt
+
+pub not_nothing : (p : Presentation) → (p ≡ Nothing → ⊥) → NotNothing p
+not_nothing Nothing h = h refl
+not_nothing Nmi h = tt
+not_nothing MachineCheck h = tt
+not_nothing (Vector x) h = tt
+not_nothing (Window x) h = tt
+not_nothing (Refused c) h = tt
+
 -- the answer a, shown as p: the record is as `settled` makes it
 settles : (v : Vcpu) (a : Answer) (p : Presentation) → p ≡ shown a → NoVector p → settled p v ≡ entered a (forget v)
 unfolding entered present unmark marks_after

@@ -50,7 +50,7 @@ pub struct Session {
 }
 
 // What an event was answered with. `Nothing` is the answer of a line that names no event, and of `state`.
-#[derive(Drop)]
+#[derive(Clone, Copy)]
 pub enum Answer {
     Nothing,
     Outcome(Outcome),

@@ -27,7 +27,7 @@ const MAX_LIST: u64 = 1024;
 pub const LONGEST: usize = 65536;
 
 // What a line says. `Nothing` is a line that is passed over. The bytes of a page and the values of a list stand beside it.
-#[derive(Drop)]
+#[derive(Clone, Copy)]
 pub enum Event {
     Nothing,
     Unreadable,

@@ -1,3 +1,3 @@
-pub mod Formed
 pub mod InRow
 pub mod Served
+pub mod Sized

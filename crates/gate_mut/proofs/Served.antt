@@ -15,7 +15,7 @@ use Rattle.model.specs.contracts.Module as modules
 use Rattle.model.proofs.Module.TheLaws as of_modules
 use Rattle.model.specs.State.{served_count, size}
 use Rattle.model.proofs.Stored.{size_le}
-use Rattle.gate_mut.proofs.Formed.{long}
+use Rattle.gate_mut.proofs.Sized.{long}
 
 size_is : (m : Module) → served_count m.n m.vmpl ≡ size m
 unfolding size

@@ -1,2 +1,2 @@
-// Proofs alone: the steps of which the walks of functions over `&mut Module` are made.
+// Proofs alone: what stores in a row to a record of a module lent by `&mut` leave, and what its type says of each record.
 #![tactic(auto)]

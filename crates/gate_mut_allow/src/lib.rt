@@ -24,7 +24,8 @@ pub fn allow_in(m: &mut Module, vcpu: u32, values: &[u32], codes: &mut [u32]) ->
     if !listed.accepts {
         return listed.outcome;
     }
-    m.vcpus[i].allowed = listed.allowed;
+    let allowed = listed.allowed;
+    m.vcpus[i].allowed = allowed;
     m.vcpus[i].flight = InFlight::Nothing;
     listed.outcome
 }

@@ -1,4 +1,4 @@
--- One record of a module changed (`changed_at`), from what a walk has stored.
+-- One record of a module changed (`changed_at`), from what the code has stored.
 --     changed_none       there is no such vCPU, and nothing is stored
 --     changed_one        the record u is stored
 --     changed_row        the record is changed by stores in a row

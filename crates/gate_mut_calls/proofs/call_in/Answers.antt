@@ -10,7 +10,7 @@ use Rattle.vcpu.specs.declared.VcpuCalled.{VcpuCalled}
 use Rattle.vcpu.specs.Records.{reply_of, called_out, delivered}
 use Rattle.vcpu.proofs.Lift.{unknown}
 use Rattle.vcpu.proofs.Steps.{served_call, sent_call}
-use Rattle.gate_mut.proofs.Formed.{long}
+use Rattle.gate_mut.proofs.Sized.{long}
 use Rattle.gate_mut.proofs.InRow.{unread, is_here}
 use Rattle.gate_mut.proofs.Served.{within, beyond, there}
 use Rattle.gate_mut_calls.proofs.call_in.Goals as goal

@@ -17,7 +17,7 @@ use Rattle.vcpu.specs.Records.{send_below}
 use Rattle.vcpu.proofs.Turns.{sent_to, reached, passed, below_none, below_next}
 use Rattle.gate.proofs.Known.{size_is}
 use Rattle.gate_mut.proofs.InRow.{unread, is_here, puts_row, long_put, other_put}
-use Rattle.gate_mut.proofs.Formed.{Formed, formed, long}
+use Rattle.gate_mut.proofs.Sized.{Sized, sized, long}
 use Rattle.gate_mut_calls.proofs.send_in.Goals as goal
 use Rattle.gate_mut_calls.proofs.send_in.Goals.{then-reaches, else-reaches}
 
@@ -25,7 +25,7 @@ use Rattle.gate_mut_calls.proofs.send_in.Goals.{then-reaches, else-reaches}
 stored_of : Posting → ℕ → Vcpu → Vcpu
 stored_of p s v = with_summary (bit_or v.summary s) (with_nmi (v.nmi || p.nmi) (with_irr (set v.irr p.word (bit_or (get_or v.irr p.word 0) p.bits)) v))
 
-stored_is : (x : ℕ) (p : Posting) (s : ℕ) → p ≡ posting_of (icr_item x) → s ≡ summary_in p → (v : Vcpu) → Formed v → Posted p v (stored_of p s v)
+stored_is : (x : ℕ) (p : Posting) (s : ℕ) → p ≡ posting_of (icr_item x) → s ≡ summary_in p → (v : Vcpu) → Sized v → Posted p v (stored_of p s v)
 unfolding stored_of
 stored_is x p s p_is s_is v f =
     subst (λ (t : ℕ). Posted p v (with_summary (bit_or v.summary t) (stored_of p s v))) (sym s_is)
@@ -68,7 +68,7 @@ loop-k-preserved c =
     let at : get_or g.vcpus k unread ≡ vcpu_at g k = is_here g k there in
     let told : c.reaches.result ≡ (bit_at c.targets_of-targets.result k && is_active (vcpu_at g k).phase) =
     c.reaches.ensures ∙ ap (λ (v : Vcpu). bit_at c.targets_of-targets.result k && is_active v.phase) at in
-    let good : Formed (vcpu_at g k) = subst Formed (sym (c.loop-k.invariant.rest k (omega arith))) (formed m c.fits-m k below) in
+    let good : Sized (vcpu_at g k) = subst Sized (sym (c.loop-k.invariant.rest k (omega arith))) (sized m c.fits-m k below) in
     elim c.if-reaches.branch [
       | then-reaches w ↦ (
           let u : Vcpu = stored_of p s (vcpu_at g k) in

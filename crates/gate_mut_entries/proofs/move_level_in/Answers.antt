@@ -7,7 +7,7 @@ use Rattle.model.specs.declared.Vcpu.{Vcpu}
 use Rattle.model.specs.State.{vcpu_at, with_irr_level, with_isr_level}
 use Rattle.vcpu_stages.specs.Stages.{level_words_after}
 use Rattle.vcpu_entries.proofs.Moves.{level_stored}
-use Rattle.gate_mut.proofs.Formed.{formed}
+use Rattle.gate_mut.proofs.Sized.{sized}
 use Rattle.gate_mut.proofs.InRow.{is_here}
 use Rattle.gate_mut.proofs.Served.{within, beyond, has_record, there}
 use Rattle.gate_mut_entries.specs.Steps.{level_moved}
@@ -28,7 +28,7 @@ returns c =
     let r = c.level_words_after-words.result in
     let l = within m i c.served-n.ensures c.if-n-vcpu.false in
     let at = there m i c.fits-m l in
-    let good = formed m c.fits-m i (has_record m i l) in (
+    let good = sized m c.fits-m i (has_record m i l) in (
       refl,
       changed_row m i l at (λ (v : Vcpu). with_irr_level (set v.irr_level w r.irr_level) v)
           ((λ (v : Vcpu). with_isr_level (set v.isr_level w r.isr_level) v) ∷ []) (level_moved x)

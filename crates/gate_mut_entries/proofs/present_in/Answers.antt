@@ -8,7 +8,7 @@ use Rattle.model.specs.declared.Vcpu.{Vcpu}
 use Rattle.model.specs.State.{vcpu_at, with_irr, with_isr, with_summary, with_flight}
 use Rattle.vcpu_stages.specs.Stages.{words_after}
 use Rattle.vcpu_entries.proofs.Moves.{vector_stored}
-use Rattle.gate_mut.proofs.Formed.{formed}
+use Rattle.gate_mut.proofs.Sized.{sized}
 use Rattle.gate_mut.proofs.InRow.{changes, is_here, puts_row}
 use Rattle.gate_mut.proofs.Served.{within, beyond, has_record, there}
 use Rattle.gate_mut_entries.specs.Steps.{changed_at, level_moved, vector_shown}
@@ -29,7 +29,7 @@ returns c =
     let r = c.words_after-words.result in
     let l = within m i c.served-n.ensures c.if-n-vcpu.false in
     let at = there m i c.fits-m l in
-    let good = formed m c.fits-m i (has_record m i l) in
+    let good = sized m c.fits-m i (has_record m i l) in
     let f = (λ (v : Vcpu). with_irr (set v.irr w r.irr) v) in
     let fs =
     (λ (v : Vcpu). with_isr (set v.isr w r.isr) v) ∷ (λ (v : Vcpu). with_summary r.summary v) ∷ (λ (v : Vcpu). with_flight (flight.Vector x) v)

@@ -17,13 +17,13 @@ use Rattle.vcpu.specs.Notices.{marks_counted}
 use Rattle.vcpu.proofs.Lift.{unknown}
 use Rattle.vcpu_pages.proofs.Adds.{Fits, added, counts}
 use Rattle.vcpu_pages.proofs.Steps.{notice_kept, notice_one, marks_asked, notice_many}
-use Rattle.gate_mut.proofs.Formed.{Formed, formed}
+use Rattle.gate_mut.proofs.Sized.{Sized, sized}
 use Rattle.gate_mut.proofs.InRow.{unread, changes, is_here, puts_read, read_row}
 use Rattle.gate_mut.proofs.Served.{within, beyond, has_record, there, off, on}
 use Rattle.gate_mut_pages.proofs.notice_in.Goals as goal
 
 -- what a record is, of what stands there
-fits_of : (v : Vcpu) → Formed v → Fits v
+fits_of : (v : Vcpu) → Sized v → Fits v
 fits_of v f = record { irr_words = f.pending; level_words = f.pending_level; byte = f.small }
 
 -- the five stores of what is asked for, of which the summary's byte is s
@@ -51,7 +51,7 @@ returns-then-not-taken c =
     let l = within m i c.served-n.ensures c.if-n-vcpu.false in
     let here = is_here m i (there m i c.fits-m l) in
     let u = get_or m.vcpus i unread in
-    let fit = fits_of u (subst Formed (sym here) (formed m c.fits-m i (has_record m i l))) in
+    let fit = fits_of u (subst Sized (sym here) (sized m c.fits-m i (has_record m i l))) in
     notice_kept m i l u here a.page.now c.take-taken.new.page c.take-taken.result c.take-taken.ensures (off _ c.if-not-taken.true) fit
 
 pub returns-then-not-taken-2 : goal.returns-then-not-taken-2
@@ -63,7 +63,7 @@ returns-then-not-taken-2 c =
     let at_i = there m i c.fits-m l in
     let here = is_here m i at_i in
     let u = get_or m.vcpus i unread in
-    let fit = fits_of u (subst Formed (sym here) (formed m c.fits-m i (has_record m i l))) in
+    let fit = fits_of u (subst Sized (sym here) (sized m c.fits-m i (has_record m i l))) in
     let r = c.take-taken.result.requested in
     let s = c.summary_of.result in
     let n = c.counts_of-c.result in
@@ -91,7 +91,7 @@ returns c =
     let at_i = there m i c.fits-m l in
     let here = is_here m i at_i in
     let u = get_or m.vcpus i unread in
-    let fit = fits_of u (subst Formed (sym here) (formed m c.fits-m i (has_record m i l))) in
+    let fit = fits_of u (subst Sized (sym here) (sized m c.fits-m i (has_record m i l))) in
     let r = c.take-taken.result.requested in
     let s = c.summary_of.result in
     let e = c.take_marks-edge.result in

@@ -1,6 +1,6 @@
 -- What the type of a module says of each of its records: its sets are eight words each, and the summary of P is a byte.
---     Formed v          that of a record
---     long, formed      of a module behind a reference (`c.fits-m`): it has 32 records, and each is formed
+--     Sized v          that of a record
+--     long, sized      of a module behind a reference (`c.fits-m`): it has 32 records, and each is sized
 -- Assumes nothing.
 use mathlib.Core.Path.{◌≡◌, subst}
 use mathlib.Core.List.{List, [], ◌∷◌}
@@ -34,7 +34,7 @@ element R (x ∷ xs) [] i d h p = absurd p
 element R (x ∷ xs) (u ∷ us) zero d h p = (u, p.0)
 element R (x ∷ xs) (u ∷ us) (suc i) d h p = element R xs us i d (le_of_suc-le-suc h) p.1
 
-pub record Formed (v : Vcpu) : Type 0 where
+pub record Sized (v : Vcpu) : Type 0 where
   pub pending : Words v.irr
   pub in_service : Words v.isr
   pub pending_level : Words v.irr_level
@@ -45,12 +45,12 @@ module _ (m : Module) (fits : StructFacts modules.the_type of_modules.the_maybe 
   pub long : length m.vcpus ≡ 32
   long = fits.1.1.1.0.1.0.1
 
-  pub formed : (i : ℕ) → i < 32 → Formed (vcpu_at m i)
-  formed i h =
+  pub sized : (i : ℕ) → i < 32 → Sized (vcpu_at m i)
+  sized i h =
       let there : i < length m.vcpus = omega (arith, long) in
       let e = element records.the_row m.vcpus fits.1.1.1.0.0 i unread there fits.1.1.1.0.1.1 in
       let f = laws.owed records.the_type of_records.the_laws (get_or m.vcpus i unread) _ e.1 in
-      subst Formed (is_here m i there)
+      subst Sized (is_here m i there)
       (record {
         pending = array_words _ _ f.1.0;
         in_service = array_words _ _ f.1.1.0;

@@ -219,13 +219,13 @@ fn every_generated_unreadable_line_has_a_reason() {
 /// A copy of the tools beside a `replay` that this script is, and an `rt` that proves nothing.
 fn workplace(name: &str, replay: &str) -> PathBuf {
     let folder = scratch(name);
-    for part in ["tools", "target/bin", "bin"] {
+    for part in ["tools", "crates/replay/out", "bin"] {
         fs::create_dir_all(folder.join(part)).unwrap();
     }
     for file in ["tools/replay", "tools/readable.awk"] {
         fs::copy(root().join(file), folder.join(file)).unwrap();
     }
-    script(&folder.join("target/bin/replay"), replay);
+    script(&folder.join("crates/replay/out/replay"), replay);
     script(&folder.join("bin/rt"), "exit 0");
     folder
 }

@@ -1,7 +1,7 @@
 //! The gate in plain Rust, in place: what `bench/run` measures the proved functions against. Written from
-//! `docs/SPECIFICATION.md` (4.17 is a clause there), with the state and the answers of `crates/model`, and for speed:
-//! words and masks, and nothing is stored but what changes. The six events and the question are not inlined and have names
-//! that callgrind finds.
+//! `docs/SPECIFICATION.md` (4.17 is a clause there), with the state of `crates/model` and its answers, here enums that have
+//! a refusal among their cases, and for speed: words and masks, and nothing is stored but what changes. The six events and
+//! the question are not inlined and have names that callgrind finds.
 
 mod calls;
 mod pages;

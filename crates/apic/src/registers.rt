@@ -1,4 +1,5 @@
 // The numbers of the x2APIC's registers (6.3 to 6.12). The ISR, the TMR and the IRR have eight each, from the first to the last.
+// Kept: registers as numbers, which register_value tells apart by ranges, a form that is prescribed (5.24; docs/DECISIONS.md, Forms).
 pub const ID: u32 = 0x802;
 
 pub const TPR: u32 = 0x808;

@@ -1,8 +1,11 @@
 -- A text put behind a text is the two together put at once, and where there is room for a text it stands as it is.
 -- Assumes nothing.
-use Rattle.std.proofs.Common.{◌≡◌, ℕ, zero, suc, ◌+◌, ◌-◌, ◌<◌, ◌≤◌, List, [], ◌∷◌, ◌++◌, length, get_or, take, drop, set, sym, refl, ap, ◌∙◌, subst, add-one, arith, length-append, length-take, take_all, take-suc}
+use Rattle.std.proofs.Common.{◌≡◌, ℕ, zero, suc, ◌+◌, ◌-◌, ◌<◌, ◌≤◌, List, [], ◌∷◌, ◌++◌, length, take, drop, set, sym, refl, ap, ◌∙◌, subst, arith, length-append, length-take, take_all}
+use Rattle.std.proofs.lemmas.List.{append_assoc}
+use borrow.Rule.Slice.PartMut.{put_mid, Post-is}
 use lib.Seq.{sets, sets-eq, take-nil}
-use Rattle.console.specs.Filling.{fitting, filled, reached, Puts}
+use Rattle.console.specs.declared.buffer.Buffer.{Buffer}
+use Rattle.console.specs.Filling.{fitting, filled, reached, Puts, Adds}
 
 -- ---- lists
 take_behind : (n : ℕ) (s t : List ℕ) → take n (s ++ t) ≡ take n s ++ take (n - length s) t
@@ -34,11 +37,21 @@ module _ {room : ℕ} where
       let e : a ≡ a + 0 = omega arith in
       record { stored = ap (λ (n : ℕ). sets o a (take n s)) (sym z); behind = e ∙ ap (λ (n : ℕ). a + length (take n s)) (sym z) }
 
-  pub puts_byte : (b : ℕ) (o : List ℕ) (a : ℕ) → a < room → Puts room (b ∷ []) o a (set o a b) (a + 1)
+  -- the text is copied to a part of the bytes, as much of it as there is room for
+  pub puts_part : (text bytes fit copied : List ℕ) (at : ℕ) → at < room → length bytes ≡ room → fit ≡ take (room - at) text → copied ≡ fit
+      → Puts room text bytes at (put_mid at (at + length fit - at) bytes copied) (at + length fit)
   unfolding filled reached fitting
-  puts_byte b o a h =
-      let e : take (room - a) (b ∷ []) ≡ b ∷ [] = take_all (room - a) (b ∷ []) (omega arith) in
-      record { stored = ap (sets o a) (sym e); behind = ap (λ (s : List ℕ). a + length s) (sym e) }
+  puts_part text bytes fit copied at h l f e =
+      let n : length fit ≡ length (take (room - at) text) = ap length f in
+      record {
+        stored =
+            ap (put_mid at (at + length fit - at) bytes) e
+            ∙ ap (λ (s : List ℕ). take at bytes ++ (fit ++ s)) (Post-is at (at + length fit) bytes (omega arith))
+            ∙ sym (append_assoc (take at bytes) fit (drop (at + length fit) bytes))
+            ∙ sym (sets-eq fit bytes at (omega (arith, h, l, n, length-take (room - at) text)))
+            ∙ ap (sets bytes at) f;
+        behind = ap (λ (s : List ℕ). at + length s) f;
+      }
 
   -- a text, and another behind it
   pub puts_more : {s t o o' o'' : List ℕ} {a a' a'' : ℕ} → Puts room s o a o' a' → Puts room t o' a' o'' a'' → Puts room (s ++ t) o a o'' a''
@@ -66,9 +79,9 @@ module _ {room : ℕ} where
   pub puts_of : {T : Type 0} (f : T → List ℕ) {x y : T} {o o' : List ℕ} {a a' : ℕ} → x ≡ y → Puts room (f y) o a o' a' → Puts room (f x) o a o' a'
   puts_of f e p = puts_same (ap f (sym e)) p
 
-  -- the same, under other names of what is left
-  pub puts_as : {s o o' o'' : List ℕ} {a a' a'' : ℕ} → o'' ≡ o' → a'' ≡ a' → Puts room s o a o' a' → Puts room s o a o'' a''
-  puts_as e f p = record { stored = e ∙ p.stored; behind = f ∙ p.behind }
+  -- the same, under another name of what is left
+  pub adds_as : {s : List ℕ} {b b' b'' : Buffer room} → b'' ≡ b' → Adds s b b' → Adds s b b''
+  adds_as {s} {b} e p = subst (λ (o : Buffer room). Adds s b o) (sym e) p
 
   -- where there is room for it all, the text stands from its place on, and what is before and behind it is as it was
   pub puts_fits : {s o o' : List ℕ} {a a' : ℕ} → length o ≡ room → a + length s ≤ room → Puts room s o a o' a'
@@ -79,19 +92,3 @@ module _ {room : ℕ} where
         p.stored ∙ ap (sets o a) w ∙ sets-eq s o a (omega (arith, e)),
         p.behind ∙ ap (λ (l : List ℕ). a + length l) w,
       )
-
-  -- ---- a loop that puts a text byte by byte: a turn, also by what it stored, and the end
-  pub turn_put : (text : List ℕ) {o o' o'' : List ℕ} {a a' a'' : ℕ} (i : ℕ) → i < length text → Puts room (take i text) o a o' a'
-      → Puts room (get_or text i 0 ∷ []) o' a' o'' a'' → Puts room (take (i + 1) text) o a o'' a''
-  turn_put text {o} {o'} {o''} {a} {a'} {a''} i h p q = puts_same (sym (ap (λ (n : ℕ). take n text) (add-one i) ∙ take-suc text i 0 h)) (puts_more p q)
-
-  pub turn_stored : (text : List ℕ) {o o' : List ℕ} {a a' : ℕ} (i : ℕ) → i < length text → a' < room → Puts room (take i text) o a o' a'
-      → Puts room (take (i + 1) text) o a (set o' a' (get_or text i 0)) (a' + 1)
-  turn_stored text {o} {o'} {a} {a'} i h r p = turn_put text i h p (puts_byte (get_or text i 0) o' a' r)
-
-  pub turn_lost : (text : List ℕ) {o o' : List ℕ} {a a' : ℕ} (i : ℕ) → i < length text → room ≤ a' → Puts room (take i text) o a o' a'
-      → Puts room (take (i + 1) text) o a o' a'
-  turn_lost text {o} {o'} {a} {a'} i h r p = turn_put text i h p (puts_out (get_or text i 0 ∷ []) o' a' r)
-
-  pub all_put : {text o o' : List ℕ} {a a' i : ℕ} → Puts room (take i text) o a o' a' → length text ≤ i → Puts room text o a o' a'
-  all_put {text} {o} {o'} {a} {a'} {i} p h = puts_same (take_all i text h) p

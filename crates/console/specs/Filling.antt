@@ -2,6 +2,7 @@
 -- Assumes nothing.
 use Rattle.std.specs.Prelude.{◌≡◌, ℕ, ◌+◌, ◌-◌, List, length, take}
 use Rattle.std.proofs.lemmas.List.Edits.{sets}
+use Rattle.console.specs.declared.buffer.Buffer.{Buffer}
 
 -- as much of the text as there is room for from place `at` on, of `room` places
 unfoldable pub fitting : ℕ → ℕ → List ℕ → List ℕ
@@ -19,3 +20,7 @@ reached room at text = at + length (fitting room at text)
 pub record Puts (room : ℕ) (text bytes : List ℕ) (at : ℕ) (after : List ℕ) (next : ℕ) : Type 0 where
   pub stored : after ≡ filled room bytes at text
   pub behind : next ≡ reached room at text
+
+-- the same of a buffer, as it was and as it is then
+abbrev pub Adds : {room : ℕ} → List ℕ → Buffer room → Buffer room → Type 0
+Adds {room} text b after = Puts room text b.bytes b.len after.bytes after.len

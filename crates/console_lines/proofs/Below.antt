@@ -9,6 +9,8 @@ use native.Mathlib.Omega.{arith}
 use lib.ListN.{length, get_or}
 use mir.Val.{bool_byte}
 use Rattle.vector_set.specs.Sets.{has}
+use Rattle.console.specs.Filling.{Puts}
+use Rattle.console.proofs.Fills.{puts_of}
 use Rattle.console_lines.specs.Numerals.{in_hex}
 use Rattle.console_lines.specs.Lines.{cell_text, cells_below, page_text, code_text, codes_below, codes_text, begun, member_text, members_below, bit}
 
@@ -59,6 +61,11 @@ module _ (s : List ℕ) (v : ℕ) (later : Bool) (e : later ≡ begun (members_b
 
   pub later_same : has s v ≡ false → later ≡ begun (members_below (v + 1) s)
   later_same h = e ∙ ap begun (none_more h)
+
+-- ---- numbers
+-- a number is printed as one that it equals
+pub put_as : {room : ℕ} (name : List ℕ) {o o' : List ℕ} {m n a a' : ℕ} → m ≡ n → Puts room (in_hex name m) o a o' a' → Puts room (in_hex name n) o a o' a'
+put_as name e p = puts_of (in_hex name) (sym e) p
 
 pub bit_is : (b : Bool) → bool_byte b ≡ bit b
 bit_is true = refl

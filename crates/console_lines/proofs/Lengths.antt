@@ -1,5 +1,6 @@
 -- No line is longer than 49,152 bytes, so each stands whole behind 16,384 others.
 -- Assumes nothing.
+use Rattle.std.specs.Prelude.{Ok, Err}
 use mathlib.Core.Path.{◌≡◌, refl, ◌∙◌, subst}
 use mathlib.Core.Bool.{Bool, true, false, cond, ◌&&◌}
 use mathlib.Core.List.{List, [], ◌∷◌, ◌++◌}
@@ -12,10 +13,7 @@ use lib.Seq.{get_or-take}
 use borrow.Author.Tests.{lt-ltb, ltb-true, ltb-false}
 use Rattle.io.specs.Digits.{hex_digit_ascii}
 use Rattle.model.specs.declared.Refusal.{Refusal}
-use Rattle.model.specs.declared.Outcome.{Outcome}
-use Rattle.model.specs.declared.Outcome.TheVariants as outcome
-use Rattle.model.specs.declared.Admission.{Admission}
-use Rattle.model.specs.declared.Admission.TheVariants as admission
+use Rattle.model.specs.declared.Counts.{Counts}
 use Rattle.model.specs.declared.Presentation.{Presentation}
 use Rattle.model.specs.declared.Presentation.TheVariants as presentation
 use Rattle.model.specs.declared.Phase.{Phase}
@@ -24,7 +22,7 @@ use Rattle.model.specs.declared.InFlight.{InFlight}
 use Rattle.model.specs.declared.InFlight.TheVariants as flight
 use Rattle.model.specs.declared.Vcpu.{Vcpu}
 use Rattle.model.specs.declared.Module.{Module}
-use Rattle.model.specs.Codes.{code_of}
+use Rattle.model.specs.Codes.{code_of, Answered}
 use Rattle.model.specs.State.{vcpu_at}
 use Rattle.trace.specs.declared.Event.{Event}
 use Rattle.trace.specs.declared.Event.TheVariants as event
@@ -33,8 +31,8 @@ use Rattle.console.specs.declared.Answer.{Answer}
 use Rattle.console.specs.declared.Answer.TheVariants as answer
 use Rattle.vector_set.specs.Sets.{has}
 use Rattle.console_lines.specs.Numerals.{numeral, in_hex, in_decimal}
-use Rattle.console_lines.specs.Lines.{newline, refusal_text, outcome_text, admission_text, presentation_text, asked_text, answer_text}
-use Rattle.console_lines.specs.Lines.{cell_text, cells_below, page_text, code_text, codes_below, codes_text, plain_line, started_text, start_line}
+use Rattle.console_lines.specs.Lines.{newline, refusal_text, number_text, counts_text, presentation_text, asked_text, given_text, answer_text}
+use Rattle.console_lines.specs.Lines.{cell_text, cells_below, page_text, code_text, codes_below, codes_text, plain_line, start_line}
 use Rattle.console_lines.specs.Lines.{paged_line, listed_line, unreadable_line, line_of, begun, member_text, members_below, members_text, set_text}
 use Rattle.console_lines.specs.Lines.{phase_text, flight_text, sets_text, bit, vcpu_line, module_line, state_line}
 use Rattle.console_lines.specs.Room.{Stands, LinesFit}
@@ -86,15 +84,14 @@ hex_wide name n m h = omega (arith, h, hex_most name n (numeral_most 16 19 n))
 refusal_most : (r : Refusal) → length (refusal_text r) ≤ 31
 refusal_most r = hex_wide (ascii " refused ") (code_of r) 9 (omega arith)
 
-outcome_most : (o : Outcome) → length (outcome_text o) ≤ 64
-outcome_most (outcome.Done v) = wider (in_hex (ascii " ok ") v) (omega arith) (hex_wide (ascii " ok ") v 4 (omega arith))
-outcome_most (outcome.Refused r) = wider (refusal_text r) (omega arith) (refusal_most r)
+number_most : (v : ℕ) → length (number_text v) ≤ 64
+number_most v = wider (number_text v) (omega arith) (hex_wide (ascii " ok ") v 4 (omega arith))
 
-admission_most : (a : Admission) → length (admission_text a) ≤ 64
-admission_most (admission.Items new merged) =
-    let l = both (in_hex (ascii " ok ") new) (in_hex (ascii " ") merged) (hex_wide (ascii " ok ") new 4 (omega arith)) (hex_wide (ascii " ") merged 1 (omega arith)) in
+counts_most : (a : Counts) → length (counts_text a) ≤ 64
+counts_most a =
+    let l = both (in_hex (ascii " ok ") a.new) (in_hex (ascii " ") a.merged) (hex_wide (ascii " ok ") a.new 4 (omega arith))
+    (hex_wide (ascii " ") a.merged 1 (omega arith)) in
     omega (arith, l)
-admission_most (admission.Refused r) = wider (refusal_text r) (omega arith) (refusal_most r)
 
 presentation_most : (p : Presentation) → length (presentation_text p) ≤ 64
 presentation_most presentation.Nothing = omega arith
@@ -102,18 +99,21 @@ presentation_most presentation.Nmi = omega arith
 presentation_most presentation.MachineCheck = omega arith
 presentation_most (presentation.Vector v) = wider (in_hex (ascii " vector ") v) (omega arith) (hex_wide (ascii " vector ") v 8 (omega arith))
 presentation_most (presentation.Window v) = wider (in_hex (ascii " window ") v) (omega arith) (hex_wide (ascii " window ") v 8 (omega arith))
-presentation_most (presentation.Refused r) = wider (refusal_text r) (omega arith) (refusal_most r)
 
 asked_most : (b : Bool) → length (asked_text b) ≤ 64
 asked_most true = omega arith
 asked_most false = omega arith
 
-answer_most : (a : Answer) → length (answer_text a) ≤ 64
-answer_most answer.Nothing = omega arith
-answer_most (answer.Outcome o) = outcome_most o
-answer_most (answer.Admission a) = admission_most a
-answer_most (answer.Presentation p) = presentation_most p
-answer_most (answer.Asked b) = asked_most b
+given_most : (a : Answer) → length (given_text a) ≤ 64
+given_most answer.Nothing = omega arith
+given_most (answer.Number v) = number_most v
+given_most (answer.Counts a) = counts_most a
+given_most (answer.Presentation p) = presentation_most p
+given_most (answer.Asked b) = asked_most b
+
+answer_most : (a : Answered Answer) → length (answer_text a) ≤ 64
+answer_most (Ok a) = given_most a
+answer_most (Err r) = wider (refusal_text r) (omega arith) (refusal_most r)
 
 -- ---- pages and codes
 cell_most : (offset b : ℕ) → offset < 4096 → b < 256 → length (cell_text offset b) ≤ 11
@@ -148,22 +148,19 @@ taken_byte page long bytes i = go (ltb i long) refl
         let s : get_or (take long page) i 0 ≡ 0 = get_or-eq_default (take long page) 0 l in omega (arith, s)
 
 -- ---- events
-plain_most : (name : List ℕ) (a : Answer) → length name ≤ 11 → length (plain_line name a) ≤ 76
+plain_most : (name : List ℕ) (a : Answered Answer) → length name ≤ 11 → length (plain_line name a) ≤ 76
 plain_most name a h =
     let l = both (name ++ answer_text a) newline (both name (answer_text a) h (answer_most a)) (exactly newline) in omega (arith, l)
 
-started_most : (o : Outcome) → length (started_text o) ≤ 76
-started_most (outcome.Done v) = omega arith
-started_most (outcome.Refused r) = plain_most (ascii "start") (answer.Outcome (outcome.Refused r)) (omega arith)
+start_most : (a : Answered Answer) → length (start_line a) ≤ 76
+start_most (Ok answer.Nothing) = plain_most (ascii "start") (Ok answer.Nothing) (omega arith)
+start_most (Ok (answer.Number v)) = omega arith
+start_most (Ok (answer.Counts a)) = plain_most (ascii "start") (Ok (answer.Counts a)) (omega arith)
+start_most (Ok (answer.Presentation p)) = plain_most (ascii "start") (Ok (answer.Presentation p)) (omega arith)
+start_most (Ok (answer.Asked b)) = plain_most (ascii "start") (Ok (answer.Asked b)) (omega arith)
+start_most (Err r) = plain_most (ascii "start") (Err r) (omega arith)
 
-start_most : (a : Answer) → length (start_line a) ≤ 76
-start_most answer.Nothing = plain_most (ascii "start") answer.Nothing (omega arith)
-start_most (answer.Outcome o) = started_most o
-start_most (answer.Admission a) = plain_most (ascii "start") (answer.Admission a) (omega arith)
-start_most (answer.Presentation p) = plain_most (ascii "start") (answer.Presentation p) (omega arith)
-start_most (answer.Asked b) = plain_most (ascii "start") (answer.Asked b) (omega arith)
-
-paged_most : (name : List ℕ) (a : Answer) (page : List ℕ) (long : ℕ) → length name ≤ 11 → length page ≤ 4096 → ((i : ℕ) → get_or page i 0 < 256)
+paged_most : (name : List ℕ) (a : Answered Answer) (page : List ℕ) (long : ℕ) → length name ≤ 11 → length page ≤ 4096 → ((i : ℕ) → get_or page i 0 < 256)
     → length (paged_line name a (take long page)) ≤ 49152
 paged_most name a page long h p bytes =
     let q = take long page in
@@ -174,7 +171,7 @@ paged_most name a page long h p bytes =
     (both (name ++ answer_text a) (ascii " page") (both name (answer_text a) h (answer_most a)) (exactly (ascii " page"))) c) (exactly newline) in
     omega (arith, l)
 
-listed_most : (a : Answer) (codes : List ℕ) (long : ℕ) → length codes ≤ 1024 → length (listed_line a (take long codes)) ≤ 49152
+listed_most : (a : Answered Answer) (codes : List ℕ) (long : ℕ) → length codes ≤ 1024 → length (listed_line a (take long codes)) ≤ 49152
 listed_most a codes long p =
     let q = take long codes in
     let c : length (codes_text q) ≤ 23552 = omega (arith, length-take long codes, p, codes_most q (length q)) in
@@ -191,7 +188,7 @@ unreadable_most number =
     (both (ascii "error line ") (numeral 10 19 number) (exactly (ascii "error line ")) (numeral_most 10 19 number)) (exactly newline) in
     omega (arith, l)
 
-module _ (page codes : List ℕ) (number : ℕ) (a : Answer) (p : length page ≤ 4096) (bytes : (i : ℕ) → get_or page i 0 < 256) (c : length codes ≤ 1024) where
+module _ (page codes : List ℕ) (number : ℕ) (a : Answered Answer) (p : length page ≤ 4096) (bytes : (i : ℕ) → get_or page i 0 < 256) (c : length codes ≤ 1024) where
   plain : (name : List ℕ) → length name ≤ 11 → length (plain_line name a) ≤ 49152
   plain name h = wider (plain_line name a) (omega arith) (plain_most name a h)
 

@@ -11,20 +11,8 @@ use lib.ListN.{length, get_or}
 use Rattle.model.specs.declared.Vcpu.{Vcpu}
 use borrow.Author.Tests.{lt-ltb, le-ltb}
 use Rattle.model.specs.declared.Module.{Module}
-use Rattle.model.specs.declared.Outcome.{Outcome}
 use Rattle.model.specs.State.{vcpu_at}
-use Rattle.trace.specs.Words.{ascii}
-use Rattle.console.specs.declared.Answer.{Answer}
-use Rattle.console.specs.declared.Answer.TheVariants as answer
-use Rattle.console_lines.specs.Lines.{plain_line, start_line, module_line, vcpu_line, state_line}
-
--- an answer that is no outcome
-pub plain_start : (a : Answer) → ((o : Outcome) → a ≡ answer.Outcome o → ⊥) → plain_line (ascii "start") a ≡ start_line a
-plain_start answer.Nothing e = refl
-plain_start (answer.Outcome o) e = absurd (e o refl)
-plain_start (answer.Admission a) e = refl
-plain_start (answer.Presentation p) e = refl
-plain_start (answer.Asked b) e = refl
+use Rattle.console_lines.specs.Lines.{module_line, vcpu_line, state_line}
 
 -- ---- the line of a vCPU
 module _ (m : Module) (k : ℕ) (later : eqb k 0 ≡ false) where

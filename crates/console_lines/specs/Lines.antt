@@ -1,12 +1,9 @@
 -- The lines that the programs print, as docs/REPLAY.md has them.
 -- Assumes nothing.
-use Rattle.std.specs.Prelude.{Bool, true, false, cond, ◌&&◌, List, [], ◌∷◌, ◌++◌, ℕ, zero, suc, ◌-◌, eqb, ltb, length, get_or, take}
+use Rattle.std.specs.Prelude.{Ok, Err, Bool, true, false, cond, ◌&&◌, List, [], ◌∷◌, ◌++◌, ℕ, zero, suc, ◌-◌, eqb, ltb, length, get_or, take}
 use Rattle.vector_set.specs.Sets.{has}
 use Rattle.model.specs.declared.Refusal.{Refusal}
-use Rattle.model.specs.declared.Outcome.{Outcome}
-use Rattle.model.specs.declared.Outcome.TheVariants as outcome
-use Rattle.model.specs.declared.Admission.{Admission}
-use Rattle.model.specs.declared.Admission.TheVariants as admission
+use Rattle.model.specs.declared.Counts.{Counts}
 use Rattle.model.specs.declared.Presentation.{Presentation}
 use Rattle.model.specs.declared.Presentation.TheVariants as presentation
 use Rattle.model.specs.declared.Phase.{Phase}
@@ -15,7 +12,7 @@ use Rattle.model.specs.declared.InFlight.{InFlight}
 use Rattle.model.specs.declared.InFlight.TheVariants as flight
 use Rattle.model.specs.declared.Vcpu.{Vcpu}
 use Rattle.model.specs.declared.Module.{Module}
-use Rattle.model.specs.Codes.{code_of}
+use Rattle.model.specs.Codes.{code_of, Answered}
 use Rattle.model.specs.State.{vcpu_at}
 use Rattle.trace.specs.declared.Event.{Event}
 use Rattle.trace.specs.declared.Event.TheVariants as event
@@ -31,14 +28,12 @@ newline = 10 ∷ []
 abbrev pub refusal_text : Refusal → List ℕ
 refusal_text r = in_hex (ascii " refused ") (code_of r)
 
-abbrev pub outcome_text : Outcome → List ℕ
-outcome_text (outcome.Done v) = in_hex (ascii " ok ") v
-outcome_text (outcome.Refused r) = refusal_text r
+abbrev pub number_text : ℕ → List ℕ
+number_text v = in_hex (ascii " ok ") v
 
 -- how many items are new, and how many were merged
-abbrev pub admission_text : Admission → List ℕ
-admission_text (admission.Items new merged) = in_hex (ascii " ok ") new ++ in_hex (ascii " ") merged
-admission_text (admission.Refused r) = refusal_text r
+abbrev pub counts_text : Counts → List ℕ
+counts_text a = in_hex (ascii " ok ") a.new ++ in_hex (ascii " ") a.merged
 
 abbrev pub presentation_text : Presentation → List ℕ
 presentation_text presentation.Nothing = ascii " nothing"
@@ -46,18 +41,22 @@ presentation_text presentation.Nmi = ascii " nmi"
 presentation_text presentation.MachineCheck = ascii " mc"
 presentation_text (presentation.Vector v) = in_hex (ascii " vector ") v
 presentation_text (presentation.Window v) = in_hex (ascii " window ") v
-presentation_text (presentation.Refused r) = refusal_text r
 
 abbrev pub asked_text : Bool → List ℕ
 asked_text true = ascii " yes"
 asked_text false = ascii " no"
 
-abbrev pub answer_text : Answer → List ℕ
-answer_text answer.Nothing = []
-answer_text (answer.Outcome o) = outcome_text o
-answer_text (answer.Admission a) = admission_text a
-answer_text (answer.Presentation p) = presentation_text p
-answer_text (answer.Asked b) = asked_text b
+-- what an event gives that is not refused
+abbrev pub given_text : Answer → List ℕ
+given_text answer.Nothing = []
+given_text (answer.Number v) = number_text v
+given_text (answer.Counts a) = counts_text a
+given_text (answer.Presentation p) = presentation_text p
+given_text (answer.Asked b) = asked_text b
+
+abbrev pub answer_text : Answered Answer → List ℕ
+answer_text (Ok a) = given_text a
+answer_text (Err r) = refusal_text r
 
 -- ---- pages and codes
 -- ` OFFSET=BYTE`, where the byte is not 0
@@ -85,32 +84,29 @@ codes_text codes = codes_below (length codes) codes
 
 -- ---- the line of an event
 -- its name and its answer
-abbrev pub plain_line : List ℕ → Answer → List ℕ
+abbrev pub plain_line : List ℕ → Answered Answer → List ℕ
 plain_line name a = name ++ answer_text a ++ newline
 
 -- start answers with the module, of which nothing is printed
-abbrev pub started_text : Outcome → List ℕ
-started_text (outcome.Done v) = ascii "start ok" ++ newline
-started_text (outcome.Refused r) = plain_line (ascii "start") (answer.Outcome (outcome.Refused r))
+abbrev pub start_line : Answered Answer → List ℕ
+start_line (Ok answer.Nothing) = plain_line (ascii "start") (Ok answer.Nothing)
+start_line (Ok (answer.Number v)) = ascii "start ok" ++ newline
+start_line (Ok (answer.Counts a)) = plain_line (ascii "start") (Ok (answer.Counts a))
+start_line (Ok (answer.Presentation p)) = plain_line (ascii "start") (Ok (answer.Presentation p))
+start_line (Ok (answer.Asked b)) = plain_line (ascii "start") (Ok (answer.Asked b))
+start_line (Err r) = plain_line (ascii "start") (Err r)
 
-abbrev pub start_line : Answer → List ℕ
-start_line answer.Nothing = plain_line (ascii "start") answer.Nothing
-start_line (answer.Outcome o) = started_text o
-start_line (answer.Admission a) = plain_line (ascii "start") (answer.Admission a)
-start_line (answer.Presentation p) = plain_line (ascii "start") (answer.Presentation p)
-start_line (answer.Asked b) = plain_line (ascii "start") (answer.Asked b)
-
-abbrev pub paged_line : List ℕ → Answer → List ℕ → List ℕ
+abbrev pub paged_line : List ℕ → Answered Answer → List ℕ → List ℕ
 paged_line name a page = name ++ answer_text a ++ ascii " page" ++ page_text page ++ newline
 
-abbrev pub listed_line : Answer → List ℕ → List ℕ
+abbrev pub listed_line : Answered Answer → List ℕ → List ℕ
 listed_line a codes = ascii "allow" ++ answer_text a ++ ascii " codes" ++ codes_text codes ++ newline
 
 abbrev pub unreadable_line : ℕ → List ℕ
 unreadable_line number = in_decimal (ascii "error line ") number ++ newline
 
 -- of a page and the second list of an event, the number of its line, the event and its answer
-abbrev pub line_of : List ℕ → List ℕ → ℕ → Event → Answer → List ℕ
+abbrev pub line_of : List ℕ → List ℕ → ℕ → Event → Answered Answer → List ℕ
 line_of page codes number event.Nothing a = []
 line_of page codes number event.Unreadable a = unreadable_line number
 line_of page codes number (event.Start n l) a = start_line a

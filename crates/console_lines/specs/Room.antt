@@ -2,6 +2,7 @@
 -- Assumes nothing.
 use Rattle.std.specs.Prelude.{◌≡◌, List, ◌++◌, ℕ, ◌+◌, ◌≤◌, ◌<◌, length, get_or, take, drop}
 use Rattle.model.specs.declared.Module.{Module}
+use Rattle.model.specs.Codes.{Answered}
 use Rattle.trace.specs.declared.Event.{Event}
 use Rattle.console.specs.declared.Answer.{Answer}
 use Rattle.console.specs.Filling.{Puts}
@@ -15,6 +16,6 @@ Stands text =
 
 -- every line does: those of events with a page of at most 4,096 bytes and at most 1,024 codes, and those of any module's state
 pub record LinesFit : Type 0 where
-  pub event : (page codes : List ℕ) (number : ℕ) (e : Event) (a : Answer) → length page ≤ 4096 → ((i : ℕ) → get_or page i 0 < 256)
+  pub event : (page codes : List ℕ) (number : ℕ) (e : Event) (a : Answered Answer) → length page ≤ 4096 → ((i : ℕ) → get_or page i 0 < 256)
       → length codes ≤ 1024 → Stands (line_of page codes number e a)
   pub state : (m : Module) (k : ℕ) → Stands (state_line m k)

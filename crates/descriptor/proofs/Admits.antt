@@ -2,7 +2,7 @@
 use mathlib.Core.Path.{◌≡◌, refl, sym, ap, ap₂, ◌∙◌}
 use mathlib.Core.Bool.{Bool, true, false, cond, not, ◌&&◌, and-false, and_assoc}
 use mathlib.Core.List.{List}
-use mathlib.Core.Option.{Option, none, some}
+use Rattle.std.specs.Prelude.{Option, None, Some}
 use Prim.Native.Nat.{ℕ, ◌-◌, ◌/◌, ◌%◌, ◌^◌, ◌<◌}
 use native.Mathlib.Omega.{arith}
 use native.Mathlib.Nat.{mod-eq_of_lt}
@@ -15,18 +15,17 @@ use Rattle.vector_set.specs.Sets.{has, collect, remove, intersection, from}
 use Rattle.vector_set.proofs.Laws.{Words, has_collect, has_from, has_intersection, collect_ext, collect_words}
 use Rattle.vector_set.proofs.WordLaws.{one_shl, remove_word}
 use Rattle.model.specs.Doorbell.{bit_of, level_bit, many_bit, is_vector, is_level, admits_level, admits_edge}
-use Rattle.descriptor.specs.declared.Requested.{Requested}
-use Rattle.descriptor.specs.Requests.{single_bit, level_of, requested_in}
+use Rattle.descriptor.specs.Requests.{Asked, single_bit, level_of, requested_in}
 
 module _ (a d : List ℕ) where
   -- whether the vector of bits 7:0 may be named
   abbrev named : Bool
   named = is_vector (get_or d 0 0) && has a (get_or d 0 0)
 
-  pub level_is : {x y : Bool} → bit_of d level_bit ≡ x → named ≡ y → admits_level a d ≡ cond (x && y) (some (get_or d 0 0)) none
+  pub level_is : {x y : Bool} → bit_of d level_bit ≡ x → named ≡ y → admits_level a d ≡ cond (x && y) (Some (get_or d 0 0)) None
   unfolding admits_level
   level_is p q =
-      ap (λ (t : Bool). cond t (some (get_or d 0 0)) none)
+      ap (λ (t : Bool). cond t (Some (get_or d 0 0)) None)
       (and_assoc (bit_of d level_bit) (is_vector (get_or d 0 0)) (has a (get_or d 0 0)) ∙ ap₂ ◌&&◌ p q)
 
   -- ---- bit 14 clear: at most the one vector
@@ -83,17 +82,17 @@ module _ (a d : List ℕ) where
       (λ v h. many_at l e m v h)
 
   -- the members of a set from 31 on are those of that set
-  many_none : none ≡ admits_level a d → bit_of d many_bit ≡ true → collect (admits_edge a d) ≡ from 31 (intersection (collect (bit_of d)) a)
+  many_none : None ≡ admits_level a d → bit_of d many_bit ≡ true → collect (admits_edge a d) ≡ from 31 (intersection (collect (bit_of d)) a)
   unfolding from
   many_none e m =
-      many_is none e m
+      many_is None e m
       ∙ collect_ext (λ v. has (from 31 (intersection (collect (bit_of d)) a)) v) (λ v. leb 31 v && has (intersection (collect (bit_of d)) a) v)
       (λ v h. has_from 31 (intersection (collect (bit_of d)) a) v h)
 
-  many_some : (x : ℕ) → some x ≡ admits_level a d → bit_of d many_bit ≡ true
+  many_some : (x : ℕ) → Some x ≡ admits_level a d → bit_of d many_bit ≡ true
       → collect (admits_edge a d) ≡ remove x (from 31 (intersection (collect (bit_of d)) a))
   unfolding remove
-  many_some x e m = many_is (some x) e m
+  many_some x e m = many_is (Some x) e m
 
   -- ---- the word of the single vector with the level-sensitive one cleared
   abbrev pub marked : List ℕ
@@ -125,11 +124,7 @@ module _ (a d : List ℕ) where
         go false y p q = keeps ∙ sym (many_none (sym (level_is p q)) m)
 
   -- the same in terms of what the request was
-  module _ (r : Requested) (e : r ≡ requested_in a d) (small : get_or d 0 0 < 256) where
-    pub word_below : r.posting.word < 8
-    unfolding requested_in
-    word_below = rw e (omega arith)
-
+  module _ (r : Asked) (e : r ≡ requested_in a d) (small : get_or d 0 0 < 256) where
     pub marks_are : (s : List ℕ) → s ≡ marked → bit_of d many_bit ≡ true
         → set s r.posting.word (bit_and (get_or s r.posting.word 0) (2 ^ 32 - 1 - r.level)) ≡ collect (admits_edge a d)
     unfolding requested_in

@@ -5,8 +5,7 @@ use mathlib.Core.List.{List}
 use Prim.Native.Nat.{ℕ, ◌/◌}
 use Rattle.vector_set.specs.Sets.{has}
 use Rattle.model.specs.Doorbell.{bit_of, level_bit, many_bit, vector_field, nmi_bit, machine_check_bit, admits_mark}
-use Rattle.descriptor.specs.declared.Requested.{Requested}
-use Rattle.descriptor.specs.Requests.{single_bit, level_of, requested_in}
+use Rattle.descriptor.specs.Requests.{Asked, single_bit, level_of, requested_in}
 
 module _ (a d : List ℕ) where
   pub level_bits : {s l : ℕ} {t : Bool} → t ≡ bit_of d level_bit → s ≡ single_bit a (vector_field d) → l ≡ cond t s 0 → l ≡ level_of a d
@@ -18,10 +17,9 @@ module _ (a d : List ℕ) where
   unfolding admits_mark
   admitted_is k x p e = rw (← p) e
 
-  pub request_is : {n c : Bool} {s l : ℕ} (m : Bool) → bit_of d many_bit ≡ m → n ≡ admits_mark nmi_bit 2 a d → c ≡ admits_mark machine_check_bit 18 a d
-      → s ≡ single_bit a (vector_field d) → l ≡ level_of a d
-      → ◌≡◌ {A = Requested}
-      (record { posting = record { nmi = n; machine_check = c; word = vector_field d / 32; bits = cond m l s }; level = l; many = m })
+  pub request_is : {n c : Bool} {w s l : ℕ} (m : Bool) → bit_of d many_bit ≡ m → n ≡ admits_mark nmi_bit 2 a d
+      → c ≡ admits_mark machine_check_bit 18 a d → w ≡ vector_field d / 32 → s ≡ single_bit a (vector_field d) → l ≡ level_of a d
+      → ◌≡◌ {A = Asked} (record { posting = record { nmi = n; machine_check = c; word = w; bits = cond m l s }; level = l; many = m })
       (requested_in a d)
   unfolding requested_in
-  request_is m e p t q r = rw (e, ← p, ← t, ← q, ← r)
+  request_is m e p t k q r = rw (e, k, ← p, ← t, ← q, ← r)

@@ -1,17 +1,16 @@
 -- Laws of bytes by their bits: the bytes that `bytes_from` and `map_bits` make, byte by byte and bit by bit; a stretch of a list that was replaced.
 -- Assumes nothing.
 use mathlib.Core.Path.{◌≡◌, refl, sym, ap, ◌∙◌}
-use mathlib.Core.Bool.{Bool, true, false, cond}
+use mathlib.Core.Bool.{Bool, true, false}
 use mathlib.Core.List.{List}
 use mathlib.Core.Logic.{◌⊎◌, inl, inr, ⊎_elim}
 use Prim.Native.Nat.{ℕ, ◌+◌, ◌*◌, ◌<◌, ◌≤◌}
 use native.Mathlib.Omega.{arith}
 use native.Mathlib.Nat.{eq-or-lt_of_le}
 use lib.Dec.{ltb}
-use lib.ListN.{length, get_or, set}
-use lib.Seq.{get_or-set_same, get_or-set_other, ext_get_or}
+use lib.ListN.{length, get_or}
+use lib.Seq.{ext_get_or}
 use borrow.Author.Tests.{ltb-true, ltb-false}
-use borrow.Author.Count.{below_more}
 use Rattle.vector_set.specs.Bits.{bit_at, bits}
 use Rattle.vector_set.proofs.BitLaws.{bits_bit, bits_lt, bits_unique}
 use Rattle.model.specs.Doorbell.{bit_of, bytes_from, map_bits}
@@ -81,15 +80,3 @@ is_mapped f p q m =
       small = m.small;
       bit = λ j h b l. m.bit j h b l ∙ ap (f (8 * j + b)) (sym (bit_of_byte p j b l));
     })
-
--- ---- a list that a loop fills from the front
-pub filled : (xs : List ℕ) (f : ℕ → ℕ) (j : ℕ) → j < length xs → ((i : ℕ) → i < j → get_or xs i 0 ≡ f i)
-    → (i : ℕ) → i < j + 1 → get_or (set xs j (f j)) i 0 ≡ f i
-filled xs f j l h =
-    below_more (λ (i : ℕ). get_or (set xs j (f j)) i 0 ≡ f i) j
-    (λ i b. get_or-set_other xs j i (f j) 0 (λ (e : i ≡ j). omega arith) ∙ h i b)
-    (get_or-set_same xs j (f j) 0 l)
-
--- byte i of what is made of d: the first four bytes of d, and zeroes
-abbrev pub front : List ℕ → ℕ → ℕ
-front d i = cond (ltb i 4) (get_or d i 0) 0

@@ -14,11 +14,10 @@ use lib.Bits.{bit_and}
 use lib.Pow.{pow-lt}
 use borrow.Author.Tests.{lt-leb, le-leb, lt-ltb, le-ltb, eq-eqb, ne_eqb, eqb-true, eqb-false}
 use Rattle.vector_set.specs.Bits.{bit_at}
-use Rattle.vector_set.proofs.BitLaws.{bit_not, bit_pow}
-use Rattle.model.specs.Doorbell.{bit_of, many_bit, announces, descriptor, clears_bit, clears, noticed_page}
-use Rattle.descriptor.specs.declared.Requested.{Requested}
-use Rattle.descriptor.specs.Requests.{no_request, requested_in}
-use Rattle.doorbell.specs.declared.Taken.{Taken}
+use Rattle.vector_set.proofs.BitLaws.{bit_not, bit_pow, mask_clear, mask_set}
+use Rattle.model.specs.Doorbell.{bit_of, many_bit, announces, descriptor, descriptor_at, clears_bit, clears, noticed_page}
+use Rattle.std.specs.Prelude.{Option, None, Some}
+use Rattle.descriptor.specs.Requests.{Asked, requested_in}
 use Rattle.doorbell.specs.Takes.{taken_from, taken_page}
 use Rattle.doorbell.proofs.Bytes.{split, place, spliced, spliced_length, spliced_before, spliced_in, spliced_after}
 use Rattle.doorbell.specs.Clear.{clearing}
@@ -38,6 +37,14 @@ announces_is l p a b =
     let d : (8 * 2 + (7 + l)) / 8 ≡ 3 = omega arith in
     let m : (8 * 2 + (7 + l)) % 8 ≡ l - 1 = omega arith in
     rw (d, m)
+
+pub announced_by : (l : ℕ) (p : List ℕ) {m : ℕ} → (1 ≤ l) × (l ≤ 3) → m ≡ 2 ^ (l - 1) → (bit_and (get_or p 3 0) m ≡ 0 → ⊥) → announces l p ≡ true
+announced_by l p guest e n =
+    announces_is l p guest.0 guest.1 ∙ mask_set (l - 1) (get_or p 3 0) (λ q. n (ap (bit_and (get_or p 3 0)) e ∙ q))
+
+pub unannounced_by : (l : ℕ) (p : List ℕ) {m : ℕ} → (1 ≤ l) × (l ≤ 3) → m ≡ 2 ^ (l - 1) → bit_and (get_or p 3 0) m ≡ 0 → announces l p ≡ false
+unannounced_by l p guest e q =
+    announces_is l p guest.0 guest.1 ∙ mask_clear (l - 1) (get_or p 3 0) (sym (ap (bit_and (get_or p 3 0)) e) ∙ q)
 
 -- 1 shifted by L - 1 within a byte
 pub mark_is : (l : ℕ) → l ≤ 3 → 1 * 2 ^ (l - 1) % 256 ≡ 2 ^ (l - 1)
@@ -151,30 +158,31 @@ module _ (l : ℕ) (many : Bool) (low : 1 ≤ l) (high : l ≤ 3) where
         (λ (h : 3 < j). away j (λ (q : j ≡ 3). omega arith)))
         (place j 3)
 
-    pub page_is : after ≡ clearing (clears l many) p
+    pub page_is : set lent 3 (bit_and (get_or lent 3 0) mask) ≡ clearing (clears l many) p
     page_is =
-        is_clearing (clears l many) p after
-        (length-set lent 3 (bit_and (get_or p 3 0) mask) ∙ lent_length) (λ j h. byte j)
+        rw (spliced_before p (64 * l) 32 rest (omega arith) rest_length 3 (omega arith))
+        (is_clearing (clears l many) p after
+        (length-set lent 3 (bit_and (get_or p 3 0) mask) ∙ lent_length) (λ j h. byte j))
 
 -- ---- the two ways out of taking what a page asks for
 kept_either : (p : List ℕ) (b : Bool) → p ≡ cond b p p
 kept_either p true = refl
 kept_either p false = refl
 
-module _ (l : ℕ) (a p : List ℕ) {r : Requested} where
-  pub unannounced : announces l p ≡ false → r ≡ no_request
-      → (◌≡◌ {A = Taken} (record { announced = false; requested = r }) (taken_from l a p)) × (r.posting.word < 8) × (p ≡ taken_page l p)
-  unfolding taken_from taken_page noticed_page no_request
-  unannounced n e = (rw (n, e), rw e (omega arith), rw n (kept_either p (bit_of (descriptor l p) many_bit)))
+module _ (l : ℕ) (a p : List ℕ) where
+  pub unannounced : announces l p ≡ false → (◌≡◌ {A = Option Asked} None (taken_from l a p)) × (p ≡ taken_page l p)
+  unfolding taken_from taken_page noticed_page
+  unannounced n = (rw n, rw n (kept_either p (bit_of (descriptor l p) many_bit)))
 
-  pub announced : announces l p ≡ true → r ≡ requested_in a (descriptor l p) → ◌≡◌ {A = Taken} (record { announced = true; requested = r }) (taken_from l a p)
+module _ (l : ℕ) (a p : List ℕ) {r : Asked} where
+  pub announced : announces l p ≡ true → r ≡ requested_in a (descriptor l p) → Some r ≡ taken_from l a p
   unfolding taken_from
   announced n e = rw (n, e)
 
   -- the page is cleared now, or once its marks are taken
   many_is : {b : Bool} → r ≡ requested_in a (descriptor l p) → not r.many ≡ b → bit_of (descriptor l p) many_bit ≡ not b
   unfolding requested_in
-  many_is e f = sym (ap (λ (s : Requested). s.many) e) ∙ sym (not-not r.many) ∙ ap not f
+  many_is e f = sym (ap (λ (s : Asked). s.many) e) ∙ sym (not-not r.many) ∙ ap not f
 
   pub page_left : r ≡ requested_in a (descriptor l p) → not r.many ≡ false → p ≡ taken_page l p
   unfolding taken_page
@@ -190,13 +198,17 @@ unfolding noticed_page
 noticed_is l p n f = rw n f
 
 -- the bytes that are lent are those of the descriptor
-pub is_descriptor : (l : ℕ) (p : List ℕ) {k : ℕ} → k ≡ 32 → take k (drop (64 * l) p) ≡ descriptor l p
+pub lent_is : (l first : ℕ) (p : List ℕ) {d : List ℕ} → first ≡ descriptor_at l → d ≡ take (first + 32 - first) (drop first p) → d ≡ descriptor l p
 unfolding descriptor
-is_descriptor l p e = rw e
+lent_is l first p e f =
+    let k : first + 32 - first ≡ 32 = omega arith in f ∙ rw k (ap (λ (n : ℕ). take 32 (drop n p)) e)
 
-pub finish : (l : ℕ) (p ys : List ℕ) {k m : ℕ} → k ≡ 32 → m ≡ 2 ^ (l - 1) → 1 ≤ l → l ≤ 3 → 256 ≤ length p → ((j : ℕ) → get_or p j 0 < 256)
-    → ys ≡ clearing (clears_bit (bit_of (take k (drop (64 * l) p)) many_bit)) (take k (drop (64 * l) p))
-    → set (spliced p (64 * l) k ys) 3 (bit_and (get_or p 3 0) (255 - m)) ≡ clearing (clears l (bit_of (descriptor l p) many_bit)) p
+pub finish : (l first : ℕ) (p ys : List ℕ) {m : ℕ} → first ≡ descriptor_at l → m ≡ 2 ^ (l - 1) → (1 ≤ l) × (l ≤ 3) → 256 ≤ length p
+    → ((j : ℕ) → get_or p j 0 < 256) → let d = take (first + 32 - first) (drop first p) in
+    ys ≡ clearing (clears_bit (bit_of d many_bit)) d
+    → let lent = spliced p first (first + 32 - first) ys in
+    set lent 3 (bit_and (get_or lent 3 0) (255 - m)) ≡ clearing (clears l (bit_of (descriptor l p) many_bit)) p
 unfolding descriptor
-finish l p ys e f low high long small y =
-    rw (y, e, f) (page_is l (bit_of (take 32 (drop (64 * l) p)) many_bit) low high p long small)
+finish l first p ys e f guest long small y =
+    let k : first + 32 - first ≡ 32 = omega arith in
+    rw (y, k, e, f) (page_is l (bit_of (take 32 (drop (64 * l) p)) many_bit) guest.0 guest.1 p long small)

@@ -4,28 +4,32 @@
 ghost use Rattle.std.specs.Prelude.{◌≡◌, []};
 ghost use Rattle.model.specs.Events.{Act, at, step, out_of};
 
+use gate::{index_of, refused};
 use model::{Module, Stepped};
 use vcpu::Reply;
 
-mod ipis;
+pub mod ipis;
 
 // A guest call (sections 5 to 7).
-pub fn call(m: Module, vcpu: u32, number: u32, ecx: u32, rdx: u64) -> Stepped
+pub fn call(mut m: Module, vcpu: u32, number: u32, ecx: u32, rdx: u64) -> Stepped<u64>
     ensures { out_of result [] ≡ step m (at vcpu (Act.call number ecx rdx)) }
 {
-    if gate::lacks(m.n, m.vmpl, vcpu) {
-        return gate::unknown(m);
-    }
-    let i = vcpu as usize;
-    let v = m.vcpus[i];
-    let called = vcpu_calls::call_vcpu(v, vcpu, m.registrations, number, ecx, rdx);
-    let w = called.vcpu;
-    let reply = called.reply;
-    let mut after = m;
-    after.vcpus[i] = w;
-    after.registrations = called.registrations;
-    match reply {
-        Reply::Gives(outcome) => Stepped { outcome, after },
-        Reply::Sends(value) => ipis::send(after, vcpu, value),
+    let i = match index_of(&m, vcpu) {
+        Ok(i) => i,
+        Err(c) => return refused(m, c),
+    };
+    let called = match vcpu_calls::call_vcpu(m.vcpus[i], vcpu, m.registrations, number, ecx, rdx) {
+        Ok(called) => called,
+        Err(c) => return refused(m, c),
+    };
+    m.vcpus[i] = called.vcpu;
+    m.registrations = called.registrations;
+    let value = match called.reply {
+        Reply::Gives(value) => value,
+        Reply::Sends(icr) => ipis::send(&mut m, vcpu, icr),
+    };
+    Stepped {
+        answer: Ok(value),
+        after: m,
     }
 }

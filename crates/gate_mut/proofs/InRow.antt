@@ -4,6 +4,7 @@
 --     row, changes                 the array after the stores fs to its record i; a record after the changes fs
 --     row_is                       the array is the one with the record changed once
 --     is_here                      the record that the code reads is the module's
+--     put_back                     the record that is read, stored back, leaves the module
 --     puts_read, puts_row          the module after stores in a row, by the record that is read, and by the module's
 --     read_row                     the record that is read after them
 --     long_put, other_put          after a store it has as many records, and any other record is as it was
@@ -20,7 +21,7 @@ use Rattle.model.specs.declared.Phase.TheVariants.{Active}
 use Rattle.model.specs.declared.Vcpu.{Vcpu}
 use Rattle.model.specs.declared.Module.{Module}
 use Rattle.model.specs.State.{vcpu, absent, vcpu_at, with_vcpu}
-use Rattle.model.proofs.Stored.{with_vcpus}
+use Rattle.model.proofs.Stored.{with_vcpus, put_same}
 
 abbrev pub unread : Vcpu
 unread = vcpu [] [] [] [] [] false false 0 0 Active Nothing 0
@@ -57,6 +58,10 @@ module _ (m : Module) (i : ℕ) (there : i < length m.vcpus) where
   pub is_here : get_or m.vcpus i unread ≡ vcpu_at m i
   unfolding vcpu_at
   is_here = same_default m.vcpus i unread absent there
+
+  -- the record that is read, stored back as it was
+  pub put_back : with_vcpu m i (get_or m.vcpus i unread) ≡ m
+  put_back = ap (with_vcpu m i) is_here ∙ put_same m i
 
   -- the changes f and fs leave the record v
   pub puts_read : (f : Vcpu → Vcpu) (fs : List (Vcpu → Vcpu)) (v : Vcpu) → changes (f ∷ fs) (get_or m.vcpus i unread) ≡ v

@@ -1,5 +1,6 @@
 -- What the type of a module says of each of its records: its sets are eight words each, and the summary of P is a byte.
 --     Sized v          that of a record
+--     of_record        of a record behind a reference (`c.fits-v`)
 --     long, sized      of a module behind a reference (`c.fits-m`): it has 32 records, and each is sized
 -- Assumes nothing.
 use mathlib.Core.Path.{◌≡◌, subst}
@@ -41,6 +42,16 @@ pub record Sized (v : Vcpu) : Type 0 where
   pub in_service_level : Words v.isr_level
   pub small : v.summary < 2 ^ 8
 
+pub of_record : (v : Vcpu) → StructFacts records.the_type of_records.the_maybe v → Sized v
+of_record v fits =
+    record {
+      pending = array_words _ _ fits.1.0;
+      in_service = array_words _ _ fits.1.1.0;
+      pending_level = array_words _ _ fits.1.1.1.0;
+      in_service_level = array_words _ _ fits.1.1.1.1.0;
+      small = fits.1.1.1.1.1.1.1.1.1.1.1.0.1;
+    }
+
 module _ (m : Module) (fits : StructFacts modules.the_type of_modules.the_maybe m) where
   pub long : length m.vcpus ≡ 32
   long = fits.1.1.1.0.1.0.1
@@ -50,11 +61,4 @@ module _ (m : Module) (fits : StructFacts modules.the_type of_modules.the_maybe 
       let there : i < length m.vcpus = omega (arith, long) in
       let e = element records.the_row m.vcpus fits.1.1.1.0.0 i unread there fits.1.1.1.0.1.1 in
       let f = laws.owed records.the_type of_records.the_laws (get_or m.vcpus i unread) _ e.1 in
-      subst Sized (is_here m i there)
-      (record {
-        pending = array_words _ _ f.1.0;
-        in_service = array_words _ _ f.1.1.0;
-        pending_level = array_words _ _ f.1.1.1.0;
-        in_service_level = array_words _ _ f.1.1.1.1.0;
-        small = f.1.1.1.1.1.1.1.1.1.1.1.0.1;
-      })
+      subst Sized (is_here m i there) (of_record (get_or m.vcpus i unread) f)

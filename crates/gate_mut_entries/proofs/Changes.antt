@@ -1,4 +1,5 @@
--- One record of a module changed (`changed_at`), from what the code has stored.
+-- One record of a module changed (`changed_at`), from what the code has stored: for code that is lent the module and not the record.
+--     changed_at         the record of a vCPU that the module has
 --     changed_none       there is no such vCPU, and nothing is stored
 --     changed_one        the record u is stored
 --     changed_row        the record is changed by stores in a row
@@ -17,7 +18,9 @@ use Rattle.model.specs.declared.Vcpu.{Vcpu}
 use Rattle.model.proofs.Stored.{size_put}
 use Rattle.vcpu.proofs.Stores.{with_vcpus, get_put, put_put}
 use Rattle.gate_mut.proofs.InRow.{row, changes, puts_row}
-use Rattle.gate_mut_entries.specs.Steps.{changed_at}
+
+abbrev pub changed_at : ℕ → (Vcpu → Vcpu) → Module → Module
+changed_at i f m = cond (ltb i (size m)) (with_vcpu m i (f (vcpu_at m i))) m
 
 -- by what the test says
 abbrev chosen : Module → ℕ → (Vcpu → Vcpu) → Bool → Module

@@ -1,20 +1,16 @@
--- What the functions below `entry_in` leave of a module: one record changed, where the module has such a vCPU.
+-- What the functions below `entry_in` leave of the record that they are lent.
 -- Assumes nothing.
-use Rattle.std.specs.Prelude.{◌≡◌, Bool, cond, ℕ, ltb}
+use Rattle.std.specs.Prelude.{Bool, ℕ}
 use Rattle.vector_set.specs.Sets.{remove}
 use Rattle.model.specs.declared.Item.TheVariants as item
 use Rattle.model.specs.declared.Presentation.{Presentation}
-use Rattle.model.specs.declared.Presentation.TheVariants.{Nothing}
 use Rattle.model.specs.declared.Vcpu.{Vcpu}
-use Rattle.model.specs.declared.Module.{Module}
-use Rattle.model.specs.State.{size, vcpu_at, with_vcpu, with_irr_level, with_isr_level}
-use Rattle.model.specs.Codes.{presents}
+use Rattle.model.specs.State.{with_irr_level, with_isr_level}
+use Rattle.model.specs.Codes.{Answered, presents, presented_result}
 use Rattle.model.specs.Requests.{forget}
-use Rattle.model.specs.Events.{entry, at, gains, entered, step, entered_out}
-use Rattle.vcpu_stages.specs.Stages.{shown, vector_offer}
-
-abbrev pub changed_at : ℕ → (Vcpu → Vcpu) → Module → Module
-changed_at i f m = cond (ltb i (size m)) (with_vcpu m i (f (vcpu_at m i))) m
+use Rattle.model.specs.Events.{gains, entered}
+use Rattle.vcpu.specs.Records.{VcpuOut}
+use Rattle.vcpu_stages.specs.Stages.{vector_offer}
 
 -- the level mark of x goes from PL to SL (8.12)
 abbrev pub level_moved : ℕ → Vcpu → Vcpu
@@ -28,10 +24,6 @@ vector_shown x v = entered (presents (item.Vector x)) (forget v)
 abbrev pub vector_entered : Bool → Vcpu → Vcpu
 vector_entered ready v = entered (vector_offer ready v) (forget v)
 
--- and answered
-abbrev pub vector_answer : Bool → ℕ → Module → Presentation
-vector_answer ready i m = cond (ltb i (size m)) (shown (vector_offer ready (vcpu_at m i))) Nothing
-
--- an entry's step gives this answer and this module (section 8)
-abbrev pub Enters : ℕ → Bool → Bool → Bool → Module → Presentation → Module → Type 0
-Enters i iF sh bl m r n = entered_out (record { presentation = r; after = n }) ≡ step m (at i (entry iF sh bl))
+-- an entry's answer, and the record after it
+abbrev pub entered_in : Answered Presentation → Vcpu → VcpuOut
+entered_in r v = record { result = presented_result r; vcpu = v }

@@ -5,7 +5,7 @@ ghost use Rattle.std.specs.Prelude.{◌≡◌, [], ◌≤◌};
 ghost use Rattle.model.specs.State.{bare, may_start, started, stopped};
 ghost use Rattle.model.specs.Events.{do_start, out_of};
 
-use model::{InFlight, Module, Outcome, Phase, Refusal, Stepped, Vcpu};
+use model::{InFlight, Module, Phase, Refusal, Stepped, Vcpu};
 
 // A record with nothing in it (3.4).
 #[tactic(auto, unfolding(model::specs::State::bare))]
@@ -41,15 +41,9 @@ fn started(n: u32, vmpl: u32) -> Module
     requires { n ≤ 32 }
     ensures { result ≡ started n vmpl }
 {
-    let fresh = bare(Phase::Active);
     let absent = bare(Phase::Left);
     let mut vcpus = [absent; 32];
-    let end = n as usize;
-    let mut k: usize = 0;
-    while k < end {
-        vcpus[k] = fresh;
-        k += 1;
-    }
+    vcpus[..n as usize].fill(bare(Phase::Active));
     Module {
         n,
         vmpl,
@@ -75,17 +69,17 @@ fn stopped() -> Module
 
 // A fresh module of n vCPUs for a guest at the VMPL, or the stopped one where a number is out of range (3.1 to 3.6).
 #[tactic(auto, unfolding(model::specs::Events::do_start))]
-pub fn start(n: u32, vmpl: u32) -> Stepped
+pub fn start(n: u32, vmpl: u32) -> Stepped<u64>
     ensures { out_of result [] ≡ do_start n vmpl }
 {
     if may_start(n, vmpl) {
         return Stepped {
-            outcome: Outcome::Done(0),
+            answer: Ok(0),
             after: started(n, vmpl),
         };
     }
     Stepped {
-        outcome: Outcome::Refused(Refusal::BadStart),
+        answer: Err(Refusal::BadStart),
         after: stopped(),
     }
 }

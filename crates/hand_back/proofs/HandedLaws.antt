@@ -1,25 +1,26 @@
 -- The laws by which the bytes that code writes in a hand-back are the definition's.
 -- Assumes nothing.
-use mathlib.Core.Path.{◌≡◌, refl, sym, subst, ap, ◌∙◌}
+use mathlib.Core.Path.{◌≡◌, refl, sym, ap, ◌∙◌}
 use mathlib.Core.Bool.{Bool, true, false, not, ◌&&◌, ◌||◌, and-true, or-false, and_assoc}
-use mathlib.Core.List.{List, [], ◌++◌, append_assoc, append-nil}
+use mathlib.Core.List.{List, ◌++◌, append_assoc}
 use mathlib.Core.Logic.{⊎_elim}
-use mathlib.Core.Option
-use mathlib.Core.Option.{Option, none, some}
-use Prim.Native.Nat.{ℕ, ◌+◌, ◌*◌, ◌/◌, ◌%◌, ◌^◌, ◌<◌}
+use Rattle.std.specs.Int.{to_le_bytes, w32}
+use Rattle.std.specs.Prelude.{Option, None, Some, unwrap_or, is_none, is_some}
+use Prim.Native.Nat.{ℕ, zero, suc, ◌+◌, ◌-◌, ◌*◌, ◌/◌, ◌%◌, ◌^◌, ◌<◌}
 use native.Mathlib.Omega.{arith}
 use lib.Dec.{leb, eqb}
-use lib.ListN.{length, get_or, take, drop, set, length-set, drop_of_length-le, length-drop}
-use lib.Seq.{get_or-set_same, get_or-set_other, take_at, drop_at, drop-drop}
+use lib.ListN.{length, get_or, take, drop, set, length-set}
+use lib.Seq.{get_or-set_same, get_or-set_other, drop-drop}
 use lib.Bits.{and_mask}
+use borrow.Author.Count.{below_more}
 use borrow.Author.Tests.{lt-leb, le-leb, ne_eqb}
 use Rattle.vector_set.specs.Bits.{one, bit_at, bits}
 use Rattle.vector_set.proofs.BitLaws.{bit_and_lem, bit_shr, bits_unique, one_le}
 use Rattle.vector_set.specs.Sets.{has, collect, difference, from, highest, is_empty}
 use Rattle.vector_set.proofs.Laws.{has_difference, has_from, collect_ext, highest_has}
-use Rattle.model.specs.Doorbell.{bytes_from, is_vector, handed_bit, serving_bit, written}
+use Rattle.model.specs.Doorbell.{bytes_from, is_vector, handed_bit, serving_bit, descriptor_at, written}
 use Rattle.model.proofs.Bytes.{bytes_from_length}
-use Rattle.doorbell.proofs.Bytes.{place, made, is_made, filled}
+use Rattle.doorbell.proofs.Bytes.{place, made, is_made}
 use Rattle.doorbell.proofs.ClearLaws.{each8}
 
 -- ---- a byte of a set
@@ -38,41 +39,23 @@ set_byte s i =
     let m : (8 * i + b) % 32 ≡ 8 * (i % 4) + b = omega arith in
     bit_low (get_or s (i / 4) 0 / 2 ^ (8 * (i % 4))) b h ∙ bit_shr (get_or s (i / 4) 0) (8 * (i % 4)) b ∙ rw (d, m))
 
--- byte b of word k
-word_byte : (s : List ℕ) (k b : ℕ) → b < 4 → get_or s k 0 / 2 ^ (8 * b) % 256 ≡ bits (has s) (8 * (4 * k + b)) 8
-word_byte s k b h =
-    let d : (4 * k + b) / 4 ≡ k = omega arith in
-    let m : (4 * k + b) % 4 ≡ b = omega arith in
-    ap (λ (j : ℕ). get_or s j 0 / 2 ^ (8 * b) % 256) (sym d) ∙ ap (λ (c : ℕ). get_or s ((4 * k + b) / 4) 0 / 2 ^ (8 * c) % 256) (sym m)
-    ∙ set_byte s (4 * k + b)
+-- byte b of a word of four
+low_byte : (n b : ℕ) {bytes : List ℕ} → bytes ≡ to_le_bytes w32 n → b < 4 → get_or bytes b 0 ≡ n / 2 ^ (8 * b) % 256
+low_byte n zero e h = rw e (omega arith)
+low_byte n (suc zero) e h = rw e (omega arith)
+low_byte n (suc (suc zero)) e h = rw e (omega arith)
+low_byte n (suc (suc (suc zero))) e h = rw e (omega arith)
+low_byte n (suc (suc (suc (suc b)))) e h = let z : ⊥ = omega arith in absurd z
 
--- one byte more of a set
-next : (s xs : List ℕ) (j x : ℕ) → x ≡ bits (has s) (8 * j) 8 → j < length xs → ((i : ℕ) → i < j → get_or xs i 0 ≡ bits (has s) (8 * i) 8)
-    → (i : ℕ) → i < j + 1 → get_or (set xs j x) i 0 ≡ bits (has s) (8 * i) 8
-next s xs j x e l h =
-    subst (λ (y : ℕ). (i : ℕ) → i < j + 1 → get_or (set xs j y) i 0 ≡ bits (has s) (8 * i) 8) (sym e) (filled xs (λ i. bits (has s) (8 * i) 8) j l h)
-
--- the list with four bytes written from place j on
-abbrev four : List ℕ → ℕ → ℕ → ℕ → ℕ → ℕ → List ℕ
-four xs j x y z t = set (set (set (set xs j x) (j + 1) y) (j + 2) z) (j + 3) t
-
--- word k written behind the words before it
-pub word_filled : (s xs : List ℕ) (k : ℕ) → get_or s k 0 < 2 ^ 32 → 4 * k + 3 < length xs → ((i : ℕ) → i < 4 * k → get_or xs i 0 ≡ bits (has s) (8 * i) 8)
-    → let w = get_or s k 0 in
-    (i : ℕ) → i < 4 * (k + 1) → get_or (four xs (4 * k) (w % 256) (w / 2 ^ 8 % 256) (w / 2 ^ 16 % 256) (w / 2 ^ 24)) i 0 ≡ bits (has s) (8 * i) 8
-word_filled s xs k small l h i g =
-    let w = get_or s k 0 in
-    let j = 4 * k in
-    let z : j + 0 ≡ j = omega arith in
-    let d : w % 256 ≡ w / 2 ^ (8 * 0) % 256 = omega arith in
-    let t : w / 2 ^ 24 ≡ w / 2 ^ 24 % 256 = omega arith in
-    let one = next s xs j (w % 256) (d ∙ word_byte s k 0 (omega arith) ∙ ap (λ (n : ℕ). bits (has s) (8 * n) 8) z) (omega arith) h in
-    let xs1 = set xs j (w % 256) in
-    let two = next s xs1 (j + 1) (w / 2 ^ 8 % 256) (word_byte s k 1 (omega arith)) (simp length-set (omega arith)) one in
-    let xs2 = set xs1 (j + 1) (w / 2 ^ 8 % 256) in
-    let three = next s xs2 (j + 2) (w / 2 ^ 16 % 256) (word_byte s k 2 (omega arith)) (simp length-set (omega arith)) (λ i b. two i (omega arith)) in
-    let xs3 = set xs2 (j + 2) (w / 2 ^ 16 % 256) in
-    next s xs3 (j + 3) (w / 2 ^ 24) (t ∙ word_byte s k 3 (omega arith)) (simp length-set (omega arith)) (λ i b. three i (omega arith)) i (omega arith)
+-- byte i written behind those before it
+pub byte_filled : (s xs bytes : List ℕ) (j : ℕ) → bytes ≡ to_le_bytes w32 (get_or s (j / 4) 0) → j < length xs
+    → ((i : ℕ) → i < j → get_or xs i 0 ≡ bits (has s) (8 * i) 8)
+    → (i : ℕ) → i < j + 1 → get_or (set xs j (get_or bytes (j % 4) 0)) i 0 ≡ bits (has s) (8 * i) 8
+byte_filled s xs bytes j e l before =
+    let x = get_or bytes (j % 4) 0 in
+    below_more (λ (i : ℕ). get_or (set xs j x) i 0 ≡ bits (has s) (8 * i) 8) j
+    (λ i b. get_or-set_other xs j i x 0 (λ (q : i ≡ j). omega arith) ∙ before i b)
+    (get_or-set_same xs j x 0 l ∙ low_byte (get_or s (j / 4) 0) (j % 4) e (omega arith) ∙ set_byte s j)
 
 -- ---- the set of the vectors 31 to 255 of one set and not of another
 pub edge_has : (s t : List ℕ) (v : ℕ) → v < 256 → has (from 31 (difference s t)) v ≡ (is_vector v && has s v && not (has t v))
@@ -107,12 +90,12 @@ tail : (b : Bool) → b ≡ (b || false || false || false || false || false)
 tail true = refl
 tail false = refl
 
-pub highest_small : (s : List ℕ) → Option.get_or (highest s) 0 < 256
+pub highest_small : (s : List ℕ) → unwrap_or (highest s) 0 < 256
 highest_small s = go (highest s) refl
   where
-    go : (o : Option ℕ) → highest s ≡ o → Option.get_or o 0 < 256
-    go none e = omega arith
-    go (some v) e = (highest_has s v e).1
+    go : (o : Option ℕ) → highest s ≡ o → unwrap_or o 0 < 256
+    go None e = omega arith
+    go (Some v) e = (highest_has s v e).1
 
 abbrev FlagBit : Bool → Bool → Bool → Bool → ℕ → Type 0
 FlagBit x c y z b =
@@ -139,7 +122,7 @@ flags_bit false false false false = each8 (FlagBit false false false false) refl
 
 module _ (irr level : List ℕ) (nmi mc : Bool) where
   abbrev top : ℕ
-  top = Option.get_or (highest level) 0
+  top = unwrap_or (highest level) 0
 
   abbrev edge : List ℕ
   edge = from 31 (difference irr level)
@@ -209,20 +192,24 @@ module _ (irr level : List ℕ) (nmi mc : Bool) where
         bit = λ j l. (byte j l).bit;
       })
 
+  some_is : is_some (highest level) ≡ not (is_empty level)
+  unfolding is_empty
+  some_is = go (highest level)
+    where
+      go : (o : Option ℕ) → is_some o ≡ not (is_none o)
+      go None = refl
+      go (Some v) = refl
+
   -- as code makes them
-  pub pending_of : {d e w : List ℕ} {x y : ℕ} {p q : Bool} → d ≡ difference irr level → e ≡ from 31 d → w ≡ bytes_from (has e) 0 32
-      → x ≡ Option.get_or (highest level) 0 → p ≡ is_empty level → q ≡ is_empty e → y ≡ one nmi + 2 * one mc + 4 * one (not p) + 64 * one (not q)
+  pub pending_of : {d e w : List ℕ} {x y : ℕ} {o : Option ℕ} {p q : Bool} → d ≡ difference irr level → e ≡ from 31 d → w ≡ bytes_from (has e) 0 32
+      → o ≡ highest level → x ≡ unwrap_or o 0 → p ≡ is_some o → q ≡ is_empty e → y ≡ one nmi + 2 * one mc + 4 * one p + 64 * one (not q)
       → set (set w 0 x) 1 y ≡ bytes_from (handed_bit irr level nmi mc) 0 32
-  pending_of a b c f g h k = cc (pending_bytes)
+  pending_of a b c f g h k m = cc (pending_bytes, some_is)
 
--- ---- two halves written one after the other, and the bytes back in the page
-pub halves : (p a b : List ℕ) → length p ≡ 64 → length a ≡ 32
-    → take 32 (a ++ drop 32 p) ++ (b ++ drop 32 (drop 32 (a ++ drop 32 p))) ≡ a ++ b
-halves p a b e f =
-    let n : drop 32 (drop 32 p) ≡ [] = drop_of_length-le (drop 32 p) {i = 32} (rw (length-drop 32 p) (omega arith)) in
-    rw (take_at a (drop 32 p) 32 f, drop_at a (drop 32 p) 32 f, n, append-nil b)
-
-pub put_back : (l : ℕ) (ys bytes p : List ℕ) {k : ℕ} → k ≡ 64 → ys ≡ bytes → take (64 * l) p ++ (ys ++ drop k (drop (64 * l) p)) ≡ written l bytes p
+-- ---- the bytes back in the page
+pub put_back : (l first : ℕ) (ys bytes p : List ℕ) → first ≡ descriptor_at l → ys ≡ bytes
+    → take first p ++ (ys ++ drop (first + 64 - first) (drop first p)) ≡ written l bytes p
 unfolding written
-put_back l ys bytes p e y =
-    rw (e, y, drop-drop 64 (64 * l) p) (sym (append_assoc (take (64 * l) p) bytes (drop (64 * l + 64) p)))
+put_back l first ys bytes p e y =
+    let k : first + 64 - first ≡ 64 = omega arith in
+    rw (k, e, y, drop-drop 64 (64 * l) p) (sym (append_assoc (take (64 * l) p) bytes (drop (64 * l + 64) p)))

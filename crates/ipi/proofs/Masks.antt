@@ -6,6 +6,7 @@ use native.Mathlib.Omega.{arith}
 use lib.Dec.{eqb, ltb}
 use lib.Pow.{pow-lt, shl_exact, ones_sub-lt}
 use borrow.Author.Tests.{ne_eqb, ltb-true, ltb-false}
+use Rattle.std.specs.Prelude.{Option, None, Some, unwrap_or, SomeIff}
 use Rattle.vector_set.specs.Bits.{bit_at, bits}
 use Rattle.vector_set.proofs.BitLaws.{bits_unique, bits_bit, bits_lt, bit_zero, bit_pow, bit_not, bit_above, bit_mod, bit_low, bit_high}
 use Rattle.model.specs.declared.Target.TheVariants.{Logical}
@@ -25,6 +26,11 @@ mask_alone k l =
 
 pub mask_none : (f : ℕ → Bool) → ((b : ℕ) → b < 32 → f b ≡ false) → 0 ≡ bits f 0 32
 mask_none f h = is_mask f 0 (omega arith) (λ b r. bit_zero b ∙ sym (h b r))
+
+-- a shift that may have no place
+pub mask_shift : (k : ℕ) (o : Option ℕ) → SomeIff o (k < 32) ((1 * 2 ^ k) % 2 ^ 32) → unwrap_or o 0 ≡ bits (λ j. eqb j k) 0 32
+mask_shift k None h = mask_none _ (λ b l. ne_eqb b k (λ (q : b ≡ k). h (omega (arith, l, q))))
+mask_shift k (Some x) h = h.1 ∙ mask_alone k h.0
 
 pub mask_not : (f : ℕ → Bool) → (2 ^ 32 - 1) - bits f 0 32 ≡ bits (λ j. not (f j)) 0 32
 mask_not f =

@@ -8,7 +8,7 @@ use Rattle.model.specs.State.{with_irr, with_summary, with_nmi, with_machine_che
 use Rattle.model.specs.Items.{mark}
 use Rattle.vector_set.specs.Bits.{one, bits}
 use Rattle.ipi.specs.declared.Posting.{Posting}
-use Rattle.ipi.specs.declared.Counts.{Counts}
+use Rattle.model.specs.declared.Counts.{Counts}
 
 -- what makes an item pending: the NMI and the machine check by their marks, a vector by its bit (4.42, 7.17)
 unfoldable pub posting_of : Item → Posting

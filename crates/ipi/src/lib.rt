@@ -7,10 +7,10 @@ ghost use Rattle.model.specs.State.{is_active};
 ghost use Rattle.model.specs.Ipi.{icr_target, hits};
 ghost use Rattle.ipi.specs.Posts.{posting_of, summary_in, counts_of, is_new};
 
-use model::{Item, Phase, Target};
+use model::{Counts, Item, Phase, Target};
 
 // What items add to a record: bits of one word of the IRR, and the marks of the NMI and of the machine check.
-#[derive(Clone, Copy)]
+#[derive(Clone, Copy, Default)]
 pub struct Posting {
     pub nmi: bool,
     pub machine_check: bool,
@@ -18,21 +18,11 @@ pub struct Posting {
     pub bits: u32,
 }
 
-// How many items of a posting were not pending where it goes, and how many were.
-#[derive(Clone, Copy)]
-pub struct Counts {
-    pub new: u32,
-    pub merged: u32,
-}
-
 // The bit of the vCPU k among 32. A destination may name a vCPU that no module has: then there is none.
 pub fn bit_of(k: u32) -> u32
     ensures { result ≡ bits (λ j. eqb j k) 0 32 }
 {
-    if 32 <= k {
-        return 0;
-    }
-    1 << k
+    1u32.checked_shl(k).unwrap_or(0)
 }
 
 // The bits of a logical destination: cluster 0 has the vCPUs 0 to 15, cluster 1 those from 16 to 31 (7.15).
@@ -64,14 +54,7 @@ pub fn reaches(targets: u32, k: u32, phase: Phase) -> bool
     requires { k < 32 }
     ensures { result ≡ (bit_at targets k && is_active phase) }
 {
-    if (targets >> k) % 2 != 1 {
-        return false;
-    }
-    match phase {
-        Phase::Active => true,
-        Phase::Leaving => false,
-        Phase::Left => false,
-    }
+    (targets >> k) % 2 == 1 && phase == Phase::Active
 }
 
 // What makes the item pending; a vector as edge, its level mark untouched (4.27, 7.17).
@@ -79,24 +62,17 @@ pub fn reaches(targets: u32, k: u32, phase: Phase) -> bool
 pub fn posting_of(item: Item) -> Posting
     ensures { result ≡ posting_of item }
 {
+    let none = Posting::default();
     match item {
-        Item::Nmi => Posting {
-            nmi: true,
-            machine_check: false,
-            word: 0,
-            bits: 0,
-        },
+        Item::Nmi => Posting { nmi: true, ..none },
         Item::MachineCheck => Posting {
-            nmi: false,
             machine_check: true,
-            word: 0,
-            bits: 0,
+            ..none
         },
         Item::Vector(v) => Posting {
-            nmi: false,
-            machine_check: false,
-            word: (v / 32) as usize,
-            bits: 1 << (v % 32) as u32,
+            word: vector_set::word_of(v),
+            bits: vector_set::bit_of(v),
+            ..none
         },
     }
 }
@@ -114,22 +90,25 @@ pub fn summary_of(posting: Posting) -> u8
     1 << posting.word
 }
 
+// Kept: the word and the marks of the record as parameters: is_new asks for no machine check, so one struct of all three would be no plainer.
 // How many items of a posting become pending at a record whose word and marks were these, and how many were pending (4.29, 4.37).
 #[tactic(auto, unfolding(crate::specs::Posts::counts_of))]
 pub fn counts_of(posting: Posting, word: u32, nmi: bool, machine_check: bool) -> Counts
     ensures { result ≡ counts_of posting word nmi machine_check }
 {
-    let new = (posting.bits & !word != 0) as u32;
-    let merged = (posting.bits & word != 0) as u32;
+    let new = u32::from(posting.bits & !word != 0);
+    let merged = u32::from(posting.bits & word != 0);
     // Few notices ask for a mark, so one test comes before both.
     if !(posting.nmi | posting.machine_check) {
         return Counts { new, merged };
     }
     Counts {
-        new: new + (posting.nmi & !nmi) as u32 + (posting.machine_check & !machine_check) as u32,
+        new: new
+            + u32::from(posting.nmi & !nmi)
+            + u32::from(posting.machine_check & !machine_check),
         merged: merged
-            + (posting.nmi & nmi) as u32
-            + (posting.machine_check & machine_check) as u32,
+            + u32::from(posting.nmi & nmi)
+            + u32::from(posting.machine_check & machine_check),
     }
 }
 

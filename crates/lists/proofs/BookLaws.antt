@@ -2,7 +2,7 @@
 -- Assumes nothing.
 use mathlib.Core.Path.{◌≡◌, refl}
 use mathlib.Core.List.{List, [], ◌∷◌, map}
-use mathlib.Core.Option.{Option, none, some}
+use Rattle.std.specs.Prelude.{Option, None, Some}
 use Prim.Native.Nat.{ℕ, zero, suc}
 use lib.ListN.{set, get_or-map}
 use lib.Seq.{map-set_same}
@@ -92,5 +92,5 @@ record_give_back (item.Vector x) v = refl
 
 pub record_undelivered : (o : Option Item) (v : Vcpu) → record_of (undelivered o v) ≡ record_of v
 unfolding undelivered
-record_undelivered none v = refl
-record_undelivered (some y) v = record_give_back y v
+record_undelivered None v = refl
+record_undelivered (Some y) v = record_give_back y v

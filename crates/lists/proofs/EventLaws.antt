@@ -2,7 +2,7 @@
 -- Assumes nothing.
 use mathlib.Core.Path.{◌≡◌, refl, sym, ap, ap₂, ◌∙◌, subst}
 use mathlib.Core.Bool.{Bool, true, false, not, ◌&&◌, ◌||◌, and-true, and-false, and_comm, or-false}
-use mathlib.Core.Option.{Option, none}
+use Rattle.std.specs.Prelude.{Option, None}
 use Prim.Native.Nat.{ℕ, ◌+◌}
 use native.Mathlib.Omega.{arith}
 use lib.Dec.{ltb, eqb}
@@ -13,7 +13,8 @@ use Rattle.model.specs.declared.Item.{Item}
 use Rattle.model.specs.declared.Item.TheVariants as item
 use Rattle.model.specs.declared.Target.TheVariants.{Caller}
 use Rattle.model.specs.declared.Refusal.{Refusal}
-use Rattle.model.specs.declared.Request.{Request}
+use Rattle.std.specs.Prelude.{Ok, Err}
+use Rattle.model.specs.Requests.{Parsed}
 use Rattle.model.specs.declared.Request.TheVariants as request
 use Rattle.model.specs.declared.Vcpu.{Vcpu}
 use Rattle.model.specs.declared.Module.{Module}
@@ -121,11 +122,11 @@ writes_is m i c y j x a =
     (record_book m j) (self_is m i y j x a)
 
 -- no call presents anything
-calls_silent : (q : Request) (i k : ℕ) (v : Vcpu) (m : Module) → presented_by (concluded (call_effect q i k v) i m).result ≡ none
+calls_silent : (q : Parsed) (i k : ℕ) (v : Vcpu) (m : Module) → presented_by (concluded (call_effect q i k v) i m).result ≡ None
 unfolding concluded call_effect
-calls_silent (request.Local o) i k v m = refl
-calls_silent (request.Icr y) i k v m = refl
-calls_silent (request.Refused d) i k v m = refl
+calls_silent (Ok (request.Local o)) i k v m = refl
+calls_silent (Ok (request.Icr y)) i k v m = refl
+calls_silent (Err d) i k v m = refl
 
 -- what an accepted non-delivery returns is what the latest accepted entry presented
 flown : (f : InFlight) (o : Option Item) → is_in_flight f ≡ true → Follows (item_in_flight f) o → o ≡ item_in_flight f

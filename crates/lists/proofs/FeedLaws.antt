@@ -3,7 +3,7 @@
 use mathlib.Core.Path.{◌≡◌, refl, ap, ◌∙◌}
 use mathlib.Core.Bool.{Bool, true, false, cond, ◌&&◌}
 use mathlib.Core.List.{List, [], ◌∷◌}
-use mathlib.Core.Option.{Option, none, some}
+use Rattle.std.specs.Prelude.{Option, None, Some}
 use Prim.Native.Nat.{ℕ, ◌+◌, ◌≤◌}
 use native.Mathlib.Omega.{arith}
 use lib.Dec.{leb, ltb, eqb}
@@ -140,11 +140,11 @@ unfolding part_on
 unknown_admits_lem l w e h = over (notice_page e.act)
   where
     over : (o : Option Bytes) → part_on l w e.vcpu o ≡ no_part
-    over none = refl
-    over (some p) = rw (le-ltb e.vcpu w.n h)
+    over None = refl
+    over (Some p) = rw (le-ltb e.vcpu w.n h)
 
 -- ---- an event that is no notice
-pub others_admit_lem : (l : ℕ) (w : Book) (e : Event) → notice_page e.act ≡ none → part_by l w e ≡ no_part
+pub others_admit_lem : (l : ℕ) (w : Book) (e : Event) → notice_page e.act ≡ None → part_by l w e ≡ no_part
 unfolding part_on
 others_admit_lem l w e h = ap (part_on l w e.vcpu) h
 

@@ -2,7 +2,7 @@
 -- Assumes nothing.
 use mathlib.Core.Path.{◌≡◌, refl, sym}
 use mathlib.Core.Bool.{Bool, true, false, cond}
-use mathlib.Core.Option.{Option, none, some}
+use Rattle.std.specs.Prelude.{Option, None, Some}
 use Prim.Native.Nat.{ℕ, ◌+◌, ◌-◌, ◌%◌}
 use lib.Dec.{leb, eqb}
 use borrow.Author.Tests.{eqb-true}
@@ -14,7 +14,8 @@ use Rattle.model.specs.declared.Refusal.{Refusal}
 use Rattle.model.specs.declared.Refusal.TheVariants.{RegistrationsFull, NotRegistered}
 use Rattle.model.specs.declared.Local.{Local}
 use Rattle.model.specs.declared.Local.TheVariants as local
-use Rattle.model.specs.declared.Request.{Request}
+use Rattle.std.specs.Prelude.{Ok, Err}
+use Rattle.model.specs.Requests.{Parsed}
 use Rattle.model.specs.declared.Request.TheVariants as request
 use Rattle.model.specs.declared.Vcpu.{Vcpu}
 use Rattle.model.specs.declared.Module.{Module}
@@ -45,10 +46,10 @@ serves i (local.SetTpr x) w = w
 serves i local.Eoi w = w
 serves i (local.SelfIpi x) w = w
 
-abbrev requests : ℕ → Request → Book → Book
-requests i (request.Local o) w = serves i o w
-requests i (request.Icr x) w = w
-requests i (request.Refused c) w = w
+abbrev requests : ℕ → Parsed → Book → Book
+requests i (Ok (request.Local o)) w = serves i o w
+requests i (Ok (request.Icr x)) w = w
+requests i (Err c) w = w
 
 module _ (i : ℕ) (w : Book) where
   registers_requests : (c : ℕ) → registers i c w ≡ requests i (registration c) w
@@ -57,7 +58,7 @@ module _ (i : ℕ) (w : Book) where
     where
       pick : (t₀ t₁ t₂ : Bool)
           → cond t₀ (leaves_at_zero i w) (cond t₁ (leaves_at_zero i (takes_one w)) (cond t₂ (adds_one w) w))
-          ≡ requests i (cond t₀ (request.Local local.Leave) (cond t₁ (request.Local local.Release) (cond t₂ (request.Local local.Register) bad))) w
+          ≡ requests i (cond t₀ (Ok (request.Local local.Leave)) (cond t₁ (Ok (request.Local local.Release)) (cond t₂ (Ok (request.Local local.Register)) bad))) w
       pick true t₁ t₂ = refl
       pick false true t₂ = refl
       pick false false true = refl
@@ -69,13 +70,13 @@ module _ (i : ℕ) (w : Book) where
     where
       pick : (a b : Bool)
           → cond a (cond b (serves i (local.Allow (c % 256)) w) (serves i (local.Disallow (c % 256)) w)) w
-          ≡ requests i (cond a (cond b (request.Local (local.Allow (c % 256))) (request.Local (local.Disallow (c % 256)))) bad) w
+          ≡ requests i (cond a (cond b (Ok (request.Local (local.Allow (c % 256)))) (Ok (request.Local (local.Disallow (c % 256))))) bad) w
       pick true true = refl
       pick true false = refl
       pick false b = refl
 
   -- one of two requests
-  either : (b : Bool) (q r : Request) → w ≡ requests i q w → w ≡ requests i r w → w ≡ requests i (cond b q r) w
+  either : (b : Bool) (q r : Parsed) → w ≡ requests i q w → w ≡ requests i r w → w ≡ requests i (cond b q r) w
   either true q r g h = g
   either false q r g h = h
 
@@ -100,7 +101,7 @@ module _ (i : ℕ) (w : Book) where
   writes_nothing kind.Both c x = value_nothing c x
 
   -- what holds of the book s op at the number n, where q is asked for, and at any other
-  at_number : (s : ℕ → Book) (q r : Request) (n op : ℕ) → s n ≡ requests i q w → (eqb op n ≡ false → s op ≡ requests i r w)
+  at_number : (s : ℕ → Book) (q r : Parsed) (n op : ℕ) → s n ≡ requests i q w → (eqb op n ≡ false → s op ≡ requests i r w)
       → s op ≡ requests i (cond (eqb op n) q r) w
   at_number s q r n op yes' no' = pick (eqb op n) refl
     where
@@ -149,8 +150,8 @@ count_stored v i m = sym (book_store m.registrations v i m)
 
 record_ended_at : (o : Option ℕ) (v : Vcpu) → record_of (ended_at o v) ≡ record_of v
 unfolding ended_at
-record_ended_at none v = refl
-record_ended_at (some x) v = refl
+record_ended_at None v = refl
+record_ended_at (Some x) v = refl
 
 leave_at : (b : Bool) (k : ℕ) (m : Module) (i : ℕ)
     → cond b (with_record i (with_phase Leaving (record_at (with_count k (book_of m)) i)) (with_count k (book_of m))) (with_count k (book_of m))
@@ -195,12 +196,12 @@ follow_serve (local.SetTpr x) m i e = nothing_stored _ i m refl
 follow_serve local.Eoi m i e = nothing_stored _ i m (record_ended_at _ (forget (vcpu_at m i)))
 follow_serve (local.SelfIpi x) m i e = nothing_stored _ i m (record_mark (item.Vector x) (forget (vcpu_at m i)))
 
-pub follow_request : (r : Request) (m : Module) (i : ℕ) → call_verdict r i m.registrations (forget (vcpu_at m i)) ≡ accept
+pub follow_request : (r : Parsed) (m : Module) (i : ℕ) → call_verdict r i m.registrations (forget (vcpu_at m i)) ≡ accept
     → requests i r (book_of m) ≡ book_of (concluded (call_effect r i m.registrations (vcpu_at m i)) i m).after
 unfolding call_verdict call_effect concluded
-follow_request (request.Local o) m i e = follow_serve o m i e
-follow_request (request.Icr x) m i e = rw (book_sent, count_same) (sym (book_put_same m i _ refl))
-follow_request (request.Refused c) m i e = clash (cc)
+follow_request (Ok (request.Local o)) m i e = follow_serve o m i e
+follow_request (Ok (request.Icr x)) m i e = rw (book_sent, count_same) (sym (book_put_same m i _ refl))
+follow_request (Err c) m i e = clash (cc)
 
 -- one that is refused leaves the book alone
 refused_serve : (o : Local) (m : Module) (i : ℕ) (c : Refusal) → (serve o i m.registrations (forget (vcpu_at m i))).verdict ≡ refuse c
@@ -218,9 +219,9 @@ refused_serve (local.SetTpr x) m i c e = clash (cc)
 refused_serve local.Eoi m i c e = clash (cc)
 refused_serve (local.SelfIpi x) m i c e = clash (cc)
 
-pub refused_request : (r : Request) (m : Module) (i : ℕ) (c : Refusal) → call_verdict r i m.registrations (forget (vcpu_at m i)) ≡ refuse c
+pub refused_request : (r : Parsed) (m : Module) (i : ℕ) (c : Refusal) → call_verdict r i m.registrations (forget (vcpu_at m i)) ≡ refuse c
     → requests i r (book_of m) ≡ book_of m
 unfolding call_verdict
-refused_request (request.Local o) m i c e = refused_serve o m i c e
-refused_request (request.Icr x) m i c e = clash (cc)
-refused_request (request.Refused d) m i c e = refl
+refused_request (Ok (request.Local o)) m i c e = refused_serve o m i c e
+refused_request (Ok (request.Icr x)) m i c e = clash (cc)
+refused_request (Err d) m i c e = refl

@@ -3,7 +3,7 @@
 use mathlib.Core.Path.{◌≡◌, refl, ap, subst}
 use mathlib.Core.Bool.{Bool, true, false, cond, ◌&&◌, and-true, and-false}
 use mathlib.Core.List.{List, [], ◌∷◌}
-use mathlib.Core.Option.{Option, none, some}
+use Rattle.std.specs.Prelude.{Option, None, Some}
 use Prim.Native.Nat.{ℕ, ◌+◌, ◌≤◌}
 use native.Mathlib.Omega.{arith}
 use lib.Dec.{ltb, eqb}
@@ -14,7 +14,8 @@ use Rattle.model.specs.declared.Item.TheVariants as item
 use Rattle.model.specs.declared.Target.{Target}
 use Rattle.model.specs.declared.Refusal.TheVariants.{UnknownVcpu, NotActive, NothingInFlight}
 use Rattle.model.specs.declared.Local.{Local}
-use Rattle.model.specs.declared.Request.{Request}
+use Rattle.std.specs.Prelude.{Ok, Err}
+use Rattle.model.specs.Requests.{Parsed}
 use Rattle.model.specs.declared.Request.TheVariants as request
 use Rattle.model.specs.declared.Vcpu.{Vcpu}
 use Rattle.model.specs.declared.Module.{Module}
@@ -105,8 +106,8 @@ module _ (j : ℕ) (x : Item) (r : InRange x) (c : ℕ) where
       }
   keep_entered (window y) v g o h = record { balance = h.balance; waits = h.waits; follows = tt }
 
-  keep_returned : (y : Item) (v : Vcpu) (g : Ledger) → g.latest ≡ some y → Invariant v g
-      → Invariant (undelivered (some y) v) (add_returned (is_item x g.latest) g)
+  keep_returned : (y : Item) (v : Vcpu) (g : Ledger) → g.latest ≡ Some y → Invariant v g
+      → Invariant (undelivered (Some y) v) (add_returned (is_item x g.latest) g)
   unfolding undelivered
   keep_returned y v g f h =
       record {
@@ -183,20 +184,20 @@ module _ (j : ℕ) (x : Item) (r : InRange x) (c : ℕ) where
         (λ q. keep_sent _ (vcpu_at m j) _ g (like_reach x r y t i (size m) j (vcpu_at m j)) q) h)
 
     -- a call, by what its numbers ask for
-    keep_call : (q : Request) (i : ℕ) → Known m i is_active
+    keep_call : (q : Parsed) (i : ℕ) → Known m i is_active
         → Invariant (vcpu_at (concluded (call_effect q i m.registrations (vcpu_at m i)) i m).after j) (add_sent (sends_by j x (book_of m) i q) g)
     unfolding concluded call_effect book_of hits
-    keep_call (request.Local o) i k = rw (vcpu_at_count, record_book m j) (keep_local o i k)
-    keep_call (request.Icr y) i k = rw (record_book m j, count_same) (keep_ipi (icr_item y) (icr_target y) i _ k refl refl refl)
-    keep_call (request.Refused d) i k = rw (count_same) (on_put m i (vcpu_at m i) j k.there (λ _ _ u v. Invariant u g → Invariant v g) (λ q. q) (λ q. q) h)
+    keep_call (Ok (request.Local o)) i k = rw (vcpu_at_count, record_book m j) (keep_local o i k)
+    keep_call (Ok (request.Icr y)) i k = rw (record_book m j, count_same) (keep_ipi (icr_item y) (icr_target y) i _ k refl refl refl)
+    keep_call (Err d) i k = rw (count_same) (on_put m i (vcpu_at m i) j k.there (λ _ _ u v. Invariant u g → Invariant v g) (λ q. q) (λ q. q) h)
 
-    keep_posted : (q : Request) (i op d y : ℕ) → Known m i is_active → Sends j x (book_of m) i (eqb op 3 && write_sends j x (book_of m) i d y) q
+    keep_posted : (q : Parsed) (i op d y : ℕ) → Known m i is_active → Sends j x (book_of m) i (eqb op 3 && write_sends j x (book_of m) i d y) q
         → Invariant (vcpu_at (concluded (call_effect q i m.registrations (vcpu_at m i)) i m).after j)
         (add_sent (accepted (concluded (call_effect q i m.registrations (vcpu_at m i)) i m).result && (eqb op 3 && write_sends j x (book_of m) i d y)) g)
     unfolding concluded call_effect
-    keep_posted (request.Local o) i op d y k l = keep_alike _ g l (keep_call (request.Local o) i k)
-    keep_posted (request.Icr z) i op d y k l = keep_alike _ g l (keep_call (request.Icr z) i k)
-    keep_posted (request.Refused e) i op d y k l = keep_call (request.Refused e) i k
+    keep_posted (Ok (request.Local o)) i op d y k l = keep_alike _ g l (keep_call (Ok (request.Local o)) i k)
+    keep_posted (Ok (request.Icr z)) i op d y k l = keep_alike _ g l (keep_call (Ok (request.Icr z)) i k)
+    keep_posted (Err e) i op d y k l = keep_call (Err e) i k
 
     -- what the event at i with the act a posts for its result
     abbrev posted : ℕ → Act Bytes → Result → Ledger
@@ -255,8 +256,8 @@ module _ (j : ℕ) (x : Item) (r : InRange x) (c : ℕ) where
       rw (follow m e) (rw (vmpl_next m e) at ih)
 
 follows_itself : (o : Option Item) → Follows o o
-follows_itself none = tt
-follows_itself (some y) = refl
+follows_itself None = tt
+follows_itself (Some y) = refl
 
 -- ---- from any module value
 pub invariant : (m : Module) (es : List Event) (j : ℕ) (x : Item) (r : InRange x)

@@ -3,8 +3,8 @@
 use mathlib.Core.Path.{◌≡◌, refl, sym, ap, ◌∙◌, subst}
 use mathlib.Core.Bool.{Bool, true, false, cond, ◌&&◌, ◌||◌, or-false, and-false}
 use mathlib.Core.List.{List, [], ◌∷◌, ◌++◌}
-use mathlib.Core.Option
-use mathlib.Core.Option.{Option, none, some}
+use Rattle.std.specs.Prelude.{unwrap_or}
+use Rattle.std.specs.Prelude.{Option, None, Some}
 use Prim.Native.Nat.{ℕ, zero, suc, ◌-◌, ◌<◌}
 use native.Mathlib.Omega.{arith}
 use lib.Dec.{leb, ltb, eqb}
@@ -182,11 +182,11 @@ code_of m i p iF sh h = pick (vcpu_at m i).phase refl
     pick Left e = ap refusal_of (demand1.hand_back_of_left m i p iF sh h (ap has_left e))
 
 -- 7 is that of a vCPU that has left alone
-seven : (s : Phase) (k : ℕ) → eqb (Option.get_or (code_by s k) 0) 7 ≡ has_left s
+seven : (s : Phase) (k : ℕ) → eqb (unwrap_or (code_by s k) 0) 7 ≡ has_left s
 seven Active k = refl
 seven Leaving k = pick (ltb k 256)
   where
-    pick : (b : Bool) → eqb (Option.get_or (cond b (some 2) none) 0) 7 ≡ false
+    pick : (b : Bool) → eqb (unwrap_or (cond b (Some 2) None) 0) 7 ≡ false
     pick true = refl
     pick false = refl
 seven Left k = refl
@@ -240,7 +240,7 @@ hand_back_mistakes =
           ∙ ap (λ (r : BookRecord). code_by r.phase (length p)) (sym (record_book (final m es) i))
           ∙ ap (λ (w : Book). code_by (record_at w i).phase (length p)) (sym (follow_all es m));
       called_twice = λ n l es i p iF sh h.
-          ap (λ (o : Option ℕ). eqb (Option.get_or o 0) 7) (code_after (start n l) es i p iF sh h)
+          ap (λ (o : Option ℕ). eqb (unwrap_or o 0) 7) (code_after (start n l) es i p iF sh h)
           ∙ seven (vcpu_at (final (start n l) es) i).phase (length p)
           ∙ left (start n l) es i ∙ ap (λ (t : Bool). t || hands_back_in i (start n l) es) (none_left n l i h);
     }

@@ -2,7 +2,7 @@
 -- Assumes nothing.
 use mathlib.Core.Path.{◌≡◌}
 use mathlib.Core.Bool.{Bool, true, false, cond, ◌&&◌}
-use mathlib.Core.Option.{Option, none, some}
+use Rattle.std.specs.Prelude.{Option, None, Some}
 use Prim.Native.Nat.{ℕ}
 use lib.Dec.{ltb}
 use Rattle.model.specs.declared.Item.{Item}
@@ -22,5 +22,5 @@ part_fits l w e x r h = over (notice_page e.act) h
     pick p false h = none_admitted x r h
 
     over : (o : Option Bytes) → in_part x (part_on l w e.vcpu o) ≡ true → Fits (record_at w e.vcpu).allowed x
-    over none h = none_admitted x r h
-    over (some p) h = pick p (ltb e.vcpu w.n && is_active (record_at w e.vcpu).phase && long_enough p) h
+    over None h = none_admitted x r h
+    over (Some p) h = pick p (ltb e.vcpu w.n && is_active (record_at w e.vcpu).phase && long_enough p) h

@@ -2,7 +2,7 @@
 -- Assumes nothing.
 use mathlib.Core.Path.{◌≡◌, refl, ap, ◌∙◌}
 use mathlib.Core.Bool.{Bool, true, false, cond, not, ◌&&◌, ◌||◌, and-true, and-false, or_comm}
-use mathlib.Core.Option.{Option, none, some}
+use Rattle.std.specs.Prelude.{Option, None, Some}
 use Prim.Native.Nat.{ℕ, ◌+◌, ◌-◌}
 use native.Mathlib.Omega.{arith}
 use lib.Dec.{ltb, leb, eqb}
@@ -64,8 +64,8 @@ like_leave x false v = record { pends = refl; in_flight = refl }
 
 like_ended : (x : Item) (o : Option ℕ) (v : Vcpu) → Like x false v (ended_at o v)
 unfolding ended_at
-like_ended x none v = record { pends = refl; in_flight = refl }
-like_ended x (some y) v = record { pends = refl; in_flight = refl }
+like_ended x None v = record { pends = refl; in_flight = refl }
+like_ended x (Some y) v = record { pends = refl; in_flight = refl }
 
 like_mark : (x : Item) → InRange x → (y : Item) (v : Vcpu) → Like x (same_item x y) v (mark y v)
 like_mark x r y v = record { pends = pending_mark x r y v; in_flight = ap (λ (u : Vcpu). u.flight) (rest_mark y v) }
@@ -100,7 +100,7 @@ pub offer_pending : (iF sh bl : Bool) (v : Vcpu) → Offered (offer iF sh bl v) 
 unfolding offer offer_with offer_highest Offered
 offer_pending iF sh bl v = first v.machine_check refl
   where
-    above : (a b : Bool) (y : ℕ) → highest (in_marked v.summary v.irr) ≡ some y → Offered (cond a nothing (cond b (presents (item.Vector y)) (window y))) v
+    above : (a b : Bool) (y : ℕ) → highest (in_marked v.summary v.irr) ≡ Some y → Offered (cond a nothing (cond b (presents (item.Vector y)) (window y))) v
     above true b y e x h = clash (cc)
     above false true y e item.Nmi h = clash (cc)
     above false true y e item.MachineCheck h = clash (cc)
@@ -108,8 +108,8 @@ offer_pending iF sh bl v = first v.machine_check refl
     above false false y e x h = clash (cc)
 
     high : (o : Option ℕ) → highest (in_marked v.summary v.irr) ≡ o → Offered (offer_highest (iF && not sh) (ppr v) o) v
-    high none e x h = clash (cc)
-    high (some y) e x h = above (leb (class y) (class (ppr v))) (iF && not sh) y e x h
+    high None e x h = clash (cc)
+    high (Some y) e x h = above (leb (class y) (class (ppr v))) (iF && not sh) y e x h
 
     pick : (a b : Bool) → v.nmi ≡ a
         → Offered (cond (a && b) (presents item.Nmi) (offer_highest (iF && not sh) (ppr v) (highest (in_marked v.summary v.irr)))) v
@@ -129,10 +129,10 @@ offer_pending iF sh bl v = first v.machine_check refl
 
 -- ---- what is in flight is what the latest accepted entry presented
 abbrev pub Follows : Option Item → Option Item → Type 0
-Follows none l = Unit {0}
-Follows (some y) l = l ≡ some y
+Follows None l = Unit {0}
+Follows (Some y) l = l ≡ Some y
 
-pub flying_flight : (y : Item) → item_in_flight (flight_of y) ≡ some y
+pub flying_flight : (y : Item) → item_in_flight (flight_of y) ≡ Some y
 flying_flight item.Nmi = refl
 flying_flight item.MachineCheck = refl
 flying_flight (item.Vector x) = refl

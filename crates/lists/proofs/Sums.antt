@@ -3,7 +3,7 @@
 use mathlib.Core.Path.{◌≡◌, refl, sym, ap, ap₂, ◌∙◌, subst}
 use mathlib.Core.Bool.{Bool, true, false, not, ◌&&◌, ◌||◌, and-false, or-false}
 use mathlib.Core.List.{List, [], ◌∷◌}
-use mathlib.Core.Option.{Option, none}
+use Rattle.std.specs.Prelude.{Option, None}
 use Prim.Native.Nat.{ℕ, ◌+◌, ◌<◌}
 use native.Mathlib.Omega.{arith}
 use lib.Dec.{ltb}
@@ -165,7 +165,7 @@ balanced m =
     }
 
 -- ---- what start gives has nothing in flight either
-pub none_in_flight : (p : Phase) → item_in_flight (bare p).flight ≡ none
+pub none_in_flight : (p : Phase) → item_in_flight (bare p).flight ≡ None
 unfolding bare
 none_in_flight p = refl
 
@@ -177,5 +177,5 @@ sums n l =
           (let q = ap one (fresh_pending n l j x r) in omega (arith, q, (invariant (start n l) es j x r).balance));
       fresh = λ es j x r.
           ap₂ (λ (b : Bool) (o : Option Item). ledger j x (start n l).vmpl (book_of (start n l)) es (results (start n l) es) (opened b o))
-          (fresh_pending n l j x r) (everywhere_start (λ v. item_in_flight v.flight ≡ none) none_in_flight n l j);
+          (fresh_pending n l j x r) (everywhere_start (λ v. item_in_flight v.flight ≡ None) none_in_flight n l j);
     }

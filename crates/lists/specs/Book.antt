@@ -1,7 +1,7 @@
 -- The book (a term of document 01), which tells what the guest has allowed, and what the notices of a list admit by it (section 12).
 -- Assumes nothing.
 use Rattle.std.specs.Prelude.{◌≡◌, cond, ◌&&◌, List, [], ◌∷◌, map, ℕ, ◌+◌, ◌-◌, ◌%◌, ◌<◌, ◌≤◌, leb, ltb, eqb, length, get_or, set}
-use Rattle.std.proofs.Math.Option.{Option, none, some}
+use Rattle.std.specs.Prelude.{Option, None, Some}
 use Rattle.model.specs.declared.Phase.{Phase}
 use Rattle.model.specs.declared.Phase.TheVariants.{Leaving, Left}
 use Rattle.model.specs.declared.Vcpu.{Vcpu}
@@ -126,17 +126,17 @@ feed_all w (e ∷ es) = feed_all (feed w e) es
 -- ---- what is admitted by it, at the VMPL l
 -- the page of a notice, if the act is one
 abbrev pub notice_page : {P : Type 0} → Act P → Option P
-notice_page (notice p) = some p
-notice_page (call op c x) = none
-notice_page (entry iF sh bl) = none
-notice_page non_delivery = none
-notice_page (hand_back p iF sh) = none
-notice_page (allow cs q) = none
+notice_page (notice p) = Some p
+notice_page (call op c x) = None
+notice_page (entry iF sh bl) = None
+notice_page non_delivery = None
+notice_page (hand_back p iF sh) = None
+notice_page (allow cs q) = None
 
 -- by a notice on the vCPU i with the page that there may be (12.18 to 12.20)
 unfoldable pub part_on : ℕ → Book → ℕ → Option Bytes → Part
-part_on l w i none = no_part
-part_on l w i (some p) =
+part_on l w i None = no_part
+part_on l w i (Some p) =
     cond (ltb i w.n && is_active (record_at w i).phase && long_enough p) (admitted l (record_at w i).allowed p) no_part
 
 abbrev pub part_by : ℕ → Book → Event → Part

@@ -1,7 +1,7 @@
 -- What an event does to any book, as far as its kind alone tells; for what stands above the module (12.34 to 12.36).
 -- Assumes nothing.
 use Rattle.std.specs.Prelude.{◌≡◌, Bool, true, false, ℕ, ◌+◌, ◌≤◌}
-use Rattle.std.proofs.Math.Option.{none}
+use Rattle.std.specs.Prelude.{None}
 use Rattle.model.specs.Doorbell.{no_part}
 use Rattle.model.specs.Events.{Act, notice, call, entry, non_delivery, hand_back, allow, Event}
 use Rattle.model.specs.Causes.{registering}
@@ -29,4 +29,4 @@ pub record Feeds : Type 0 where
   pub unknown : (w : Book) (e : Note) → w.n ≤ e.vcpu → feed w e ≡ w
   pub unknown_admits : (l : ℕ) (w : Book) (e : Event) → w.n ≤ e.vcpu → part_by l w e ≡ no_part
   -- an event that is no notice admits nothing (12.36)
-  pub others_admit : (l : ℕ) (w : Book) (e : Event) → notice_page e.act ≡ none → part_by l w e ≡ no_part
+  pub others_admit : (l : ℕ) (w : Book) (e : Event) → notice_page e.act ≡ None → part_by l w e ≡ no_part

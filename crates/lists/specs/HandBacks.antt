@@ -1,7 +1,7 @@
 -- Which mistake a refused hand-back was, over every list of events: it was called too early, or twice (13.103, 13.104, 13.107).
 -- Assumes nothing.
 use Rattle.std.specs.Prelude.{◌≡◌, Bool, true, false, ◌||◌, List, [], ◌∷◌, ℕ, ◌<◌, eqb, length}
-use Rattle.std.proofs.Math.Option.{Option, some}
+use Rattle.std.specs.Prelude.{Option, Some}
 use Rattle.model.specs.declared.Phase.{Phase}
 use Rattle.model.specs.declared.Phase.TheVariants.{Active, Leaving, Left}
 use Rattle.model.specs.declared.Module.{Module}
@@ -20,9 +20,9 @@ hands_back_in j m (e ∷ es) = hands_back_at m j e || hands_back_in j (next m e)
 
 -- the code of a hand-back with a page of k bytes by the phase of its vCPU, if it is refused (10.2, 13.104)
 abbrev pub code_by : Phase → ℕ → Option ℕ
-code_by Active k = some 3
+code_by Active k = Some 3
 code_by Leaving k = short_code k
-code_by Left k = some 7
+code_by Left k = Some 7
 
 pub record HandBackMistakes : Type 0 where
   -- of every module value: after a list a vCPU has left if it had before or the list has an accepted hand-back of it, and not otherwise (13.103)

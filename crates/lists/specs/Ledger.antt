@@ -2,7 +2,7 @@
 -- over a list with its results (section 12). It is read from the events, the results and the book, and begins with what is pending and in flight.
 -- Assumes nothing.
 use Rattle.std.specs.Prelude.{◌≡◌, Bool, true, false, cond, not, ◌&&◌, ◌||◌, List, [], ◌∷◌, ℕ, ◌+◌, ltb, eqb}
-use Rattle.std.proofs.Math.Option.{Option}
+use Rattle.std.specs.Prelude.{Option}
 use Rattle.model.specs.declared.Item.{Item}
 use Rattle.model.specs.declared.Item.TheVariants as item
 use Rattle.model.specs.declared.Target.{Target}

@@ -1,7 +1,7 @@
 -- Lists of events: what they give, notices struck out, and lists that differ in bytes of notices alone (section 12).
 -- Assumes nothing.
 use Rattle.std.specs.Prelude.{◌≡◌, Bool, false, cond, List, [], ◌∷◌, map, ℕ, length}
-use Rattle.std.proofs.Math.Option.{Option, none, some}
+use Rattle.std.specs.Prelude.{Option, None, Some}
 use Rattle.model.specs.declared.Module.{Module}
 use Rattle.model.specs.Codes.{Result, done, counted, answers, coded, refused}
 use Rattle.model.specs.Events.{notice, at, Bytes, Event, Out, run}
@@ -33,8 +33,8 @@ pages m es = hand_back_pages es (run m es)
 
 -- a list without its notices
 abbrev pub keep_unless : {A P : Type 0} → Option P → A → List A → List A
-keep_unless none e es = e ∷ es
-keep_unless (some p) e es = es
+keep_unless None e es = e ∷ es
+keep_unless (Some p) e es = es
 
 -- the list without its notices (13.23)
 unfoldable pub struck : List Event → List Event

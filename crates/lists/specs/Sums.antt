@@ -1,7 +1,7 @@
 -- Every request accounted for: the sums, over every list of events (13.88 to 13.99).
 -- Assumes nothing.
 use Rattle.std.specs.Prelude.{◌≡◌, Bool, false, not, ◌&&◌, ◌||◌, List, [], ◌∷◌, ◌++◌, ℕ, ◌+◌, ltb, eqb}
-use Rattle.std.proofs.Math.Option.{none}
+use Rattle.std.specs.Prelude.{None}
 use Rattle.model.specs.declared.Item.{Item}
 use Rattle.model.specs.declared.Item.TheVariants as item
 use Rattle.model.specs.declared.Module.{Module}
@@ -124,4 +124,4 @@ pub record Sums (n l : ℕ) : Type 0 where
   -- there the ledger begins with nothing that waits and no entry: nothing of it is read from what a module stores (12.32)
   pub fresh : (es : List Event) (j : ℕ) (x : Item) → InRange x
       → ledger_of (start n l) j x es
-      ≡ ledger j x (start n l).vmpl (book_of (start n l)) es (results (start n l) es) (opened false none)
+      ≡ ledger j x (start n l).vmpl (book_of (start n l)) es (results (start n l) es) (opened false None)

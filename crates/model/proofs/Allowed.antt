@@ -3,7 +3,7 @@
 use mathlib.Core.Path.{◌≡◌, refl, ◌∙◌}
 use mathlib.Core.Bool.{Bool, true, false, cond, ◌&&◌, ◌||◌, or-false, and-eq-true_iff}
 use mathlib.Core.List.{List}
-use mathlib.Core.Option.{none, some}
+use Rattle.std.specs.Prelude.{None, Some}
 use Prim.Native.Nat.{ℕ, ◌≤◌}
 use lib.Dec.{leb}
 use borrow.Author.Tests.{eqb-true, leb-true}
@@ -38,7 +38,7 @@ unfolding admits_level
 level_fits a d v = pick (bit_of d level_bit) (is_vector (vector_field d)) (has a (vector_field d)) refl refl
   where
     pick : (b c e : Bool) → is_vector (vector_field d) ≡ c → has a (vector_field d) ≡ e
-        → is_level (cond (b && c && e) (some (vector_field d)) none) v ≡ true → Fits a (item.Vector v)
+        → is_level (cond (b && c && e) (Some (vector_field d)) None) v ≡ true → Fits a (item.Vector v)
     pick true true true p q h = rw (eqb-true v (vector_field d) h) (q, is_vector_lem (vector_field d) p)
     pick true true false p q h = clash (cc)
     pick true false e p q h = clash (cc)

@@ -3,7 +3,7 @@
 use mathlib.Core.Path.{◌≡◌, refl, sym, ap, ◌∙◌}
 use mathlib.Core.Bool.{Bool, true, false, cond, not, ◌&&◌, ◌||◌}
 use mathlib.Core.List.{List, []}
-use mathlib.Core.Option.{Option, none}
+use Rattle.std.specs.Prelude.{Option, None, is_some}
 use Prim.Native.Nat.{ℕ, ◌+◌, ◌/◌, ◌<◌, ◌≤◌}
 use native.Mathlib.Omega.{arith}
 use lib.Dec.{ltb}
@@ -20,7 +20,7 @@ use Rattle.model.specs.Items.{put_irr}
 use Rattle.model.specs.Requests.{forget}
 use Rattle.model.specs.Registers.{ppr}
 use Rattle.model.specs.Events.{entry, at, offer_highest, offer_with, offer, entered, vcpu_verdict, verdict, effect, Out, concluded, decided, step}
-use Rattle.model.specs.Events.{final, is_some, would_present}
+use Rattle.model.specs.Events.{final, would_present}
 use Rattle.model.specs.SummaryClaims.{Summed, offered, SummaryClaims}
 use Rattle.vector_set.specs.Bits.{bit_at}
 use Rattle.vector_set.specs.Sets.{Words, has, collect, highest}
@@ -174,7 +174,7 @@ unfolding offer
 asks_full_lem m i l on h = asks_offer m i l on ∙ ap (λ (s : List ℕ). is_some (presented_in (offered m i true false false s))) (all_seen (vcpu_at m i) h)
 
 -- ---- an entry that finds nothing
-pub none_marked_lem : (s : List ℕ) → highest (in_marked 0 s) ≡ none
+pub none_marked_lem : (s : List ℕ) → highest (in_marked 0 s) ≡ None
 unfolding in_marked
 none_marked_lem s = highest_no _ (λ x l. has_collect (λ x. bit_at 0 (x / 32) && has s x) x l ∙ ap (λ (b : Bool). b && has s x) (bit_zero (x / 32)))
 
@@ -184,7 +184,7 @@ unfolding offer offer_with offer_highest
 quiet iF sh bl v n c z =
     ap (λ (b : ℕ). by_parts v.machine_check v.nmi (highest (in_marked b v.irr))) z
     ∙ ap (by_parts v.machine_check v.nmi) (none_marked_lem v.irr)
-    ∙ ap (λ (b : Bool). by_parts v.machine_check b none) n ∙ ap (λ (b : Bool). by_parts b false none) c
+    ∙ ap (λ (b : Bool). by_parts v.machine_check b None) n ∙ ap (λ (b : Bool). by_parts b false None) c
   where
     by_parts : Bool → Bool → Option ℕ → Answer
     by_parts m n o = cond m (presents item.MachineCheck) (cond (n && not (sh || bl)) (presents item.Nmi) (offer_highest (iF && not sh) (ppr v) o))

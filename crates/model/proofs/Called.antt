@@ -3,7 +3,7 @@
 use mathlib.Core.Path.{◌≡◌, refl, ap, ◌∙◌}
 use mathlib.Core.Bool.{Bool, true, false, cond, not, ◌&&◌, ◌||◌}
 use mathlib.Core.List.{List}
-use mathlib.Core.Option.{Option, none, some}
+use Rattle.std.specs.Prelude.{Option, None, Some}
 use Prim.Native.Nat.{ℕ, ◌<◌, ◌-◌, ◌%◌}
 use lib.Dec.{ltb, eqb}
 use Rattle.vector_set.specs.Bits.{bit_at}
@@ -15,7 +15,8 @@ use Rattle.model.specs.declared.Item.TheVariants as item
 use Rattle.model.specs.declared.Local.{Local}
 use Rattle.model.specs.declared.Local.TheVariants as local
 use Rattle.model.specs.declared.Refusal.TheVariants.{UnknownVcpu, NotActive}
-use Rattle.model.specs.declared.Request.{Request}
+use Rattle.std.specs.Prelude.{Ok, Err}
+use Rattle.model.specs.Requests.{Parsed}
 use Rattle.model.specs.declared.Request.TheVariants as request
 use Rattle.model.specs.declared.Vcpu.{Vcpu}
 use Rattle.model.specs.declared.Module.{Module}
@@ -44,8 +45,8 @@ flight_leave false v = refl
 
 flight_ended : (o : Option ℕ) (v : Vcpu) → (ended_at o v).flight ≡ v.flight
 unfolding ended_at
-flight_ended none v = refl
-flight_ended (some x) v = refl
+flight_ended None v = refl
+flight_ended (Some x) v = refl
 
 flight_serve : (o : Local) (i k : ℕ) (v : Vcpu) → (serve o i k v).vcpu.flight ≡ v.flight
 unfolding serve ended
@@ -60,11 +61,11 @@ flight_serve (local.SetTpr x) i k v = refl
 flight_serve local.Eoi i k v = flight_ended (highest v.isr) v
 flight_serve (local.SelfIpi x) i k v = ap (λ (u : Vcpu). u.flight) (rest_mark (item.Vector x) v)
 
-flight_called : (r : Request) (i k : ℕ) (v : Vcpu) → call_verdict r i k (forget v) ≡ accept → (call_effect r i k v).vcpu.flight ≡ flight.Nothing
+flight_called : (r : Parsed) (i k : ℕ) (v : Vcpu) → call_verdict r i k (forget v) ≡ accept → (call_effect r i k v).vcpu.flight ≡ flight.Nothing
 unfolding call_effect call_verdict
-flight_called (request.Local o) i k v h = flight_serve o i k (forget v)
-flight_called (request.Icr x) i k v h = refl
-flight_called (request.Refused c) i k v h = clash (cc)
+flight_called (Ok (request.Local o)) i k v h = flight_serve o i k (forget v)
+flight_called (Ok (request.Icr x)) i k v h = refl
+flight_called (Err c) i k v h = clash (cc)
 
 pub calls_forget_lem : (m : Module) (i op c x r : ℕ) → (step m (at i (call op c x))).result ≡ done r
     → (vcpu_at (next m (at i (call op c x))) i).flight ≡ flight.Nothing
@@ -80,8 +81,8 @@ calls_forget_lem m i op c x r =
 
 -- ---- an accepted call 4 puts its vector into A or takes it out
 -- what call 4 asks for, by whether its value is taken and by bit 8
-abbrev asks : ℕ → Bool → Bool → Request
-asks c n t = cond n (cond t (request.Local (local.Allow (c % 256))) (request.Local (local.Disallow (c % 256)))) bad
+abbrev asks : ℕ → Bool → Bool → Parsed
+asks c n t = cond n (cond t (Ok (request.Local (local.Allow (c % 256)))) (Ok (request.Local (local.Disallow (c % 256))))) bad
 
 permitted : (c i k : ℕ) (v : Vcpu) (y : ℕ) → y < 256 → call_verdict (permission c) i k (forget v) ≡ accept
     → has (call_effect (permission c) i k v).vcpu.allowed y ≡ cond (eqb y (c % 256)) (bit_at c 8) (has v.allowed y)

@@ -3,7 +3,7 @@
 use mathlib.Core.Path.{◌≡◌, refl, ap, ap₂, ◌∙◌}
 use mathlib.Core.Bool.{Bool, true, false, cond}
 use mathlib.Core.List.{List, [], ◌∷◌, map}
-use mathlib.Core.Option.{Option, none, some}
+use Rattle.std.specs.Prelude.{Option, None, Some}
 use Prim.Native.Nat.{ℕ, zero, suc, ◌+◌, ◌-◌}
 use lib.Dec.{eqb}
 use lib.ListN.{set, get_or-map}
@@ -14,7 +14,8 @@ use Rattle.model.specs.declared.Item.{Item}
 use Rattle.model.specs.declared.Item.TheVariants.{Nmi, MachineCheck, Vector}
 use Rattle.model.specs.declared.Local.{Local}
 use Rattle.model.specs.declared.Local.TheVariants as local
-use Rattle.model.specs.declared.Request.{Request}
+use Rattle.std.specs.Prelude.{Ok, Err}
+use Rattle.model.specs.Requests.{Parsed}
 use Rattle.model.specs.declared.Request.TheVariants as request
 use Rattle.model.specs.declared.Target.{Target}
 use Rattle.model.specs.declared.Vcpu.{Vcpu}
@@ -41,8 +42,8 @@ leave_apart false v = refl
 
 ended_apart : (o : Option ℕ) (v : Vcpu) → ended_at o (U v) ≡ U (ended_at o v)
 unfolding ended_at
-ended_apart none v = refl
-ended_apart (some x) v = refl
+ended_apart None v = refl
+ended_apart (Some x) v = refl
 
 -- what is served, with the mark cleared in the record
 abbrev cleared : Served → Served
@@ -64,20 +65,20 @@ serve_apart (local.SetTpr x) i k v = refl
 serve_apart local.Eoi i k v = ap (with_vcpu_lem (serve local.Eoi i k v)) (ended_apart (highest v.isr) v)
 serve_apart (local.SelfIpi x) i k v = refl
 
-verdict_apart : (r : Request) (i k : ℕ) (v : Vcpu) → call_verdict r i k (U v) ≡ call_verdict r i k v
+verdict_apart : (r : Parsed) (i k : ℕ) (v : Vcpu) → call_verdict r i k (U v) ≡ call_verdict r i k v
 unfolding call_verdict
-verdict_apart (request.Local o) i k v = ap (λ (s : Served). s.verdict) (serve_apart o i k v)
-verdict_apart (request.Icr x) i k v = refl
-verdict_apart (request.Refused c) i k v = refl
+verdict_apart (Ok (request.Local o)) i k v = ap (λ (s : Served). s.verdict) (serve_apart o i k v)
+verdict_apart (Ok (request.Icr x)) i k v = refl
+verdict_apart (Err c) i k v = refl
 
 abbrev cleared_in : Effect → Effect
 cleared_in f = record { reply = f.reply; vcpu = U f.vcpu; registrations = f.registrations; page = f.page }
 
-effect_apart : (r : Request) (i k : ℕ) (v : Vcpu) → call_effect r i k (U v) ≡ cleared_in (call_effect r i k v)
+effect_apart : (r : Parsed) (i k : ℕ) (v : Vcpu) → call_effect r i k (U v) ≡ cleared_in (call_effect r i k v)
 unfolding call_effect
-effect_apart (request.Local o) i k v = rw (serve_apart o i k (forget v))
-effect_apart (request.Icr x) i k v = refl
-effect_apart (request.Refused c) i k v = refl
+effect_apart (Ok (request.Local o)) i k v = rw (serve_apart o i k (forget v))
+effect_apart (Ok (request.Icr x)) i k v = refl
+effect_apart (Err c) i k v = refl
 
 -- ---- the module
 at_apart : (m : Module) (k : ℕ) → vcpu_at (without_machine_checks m) k ≡ U (vcpu_at m k)

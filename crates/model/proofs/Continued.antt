@@ -3,8 +3,8 @@
 use mathlib.Core.Path.{◌≡◌, refl, sym, ap, subst, ◌∙◌}
 use mathlib.Core.Bool.{Bool, true, false, cond, not, ◌&&◌, ◌||◌}
 use mathlib.Core.List.{List, [], ◌∷◌, ◌++◌}
-use mathlib.Core.Option
-use mathlib.Core.Option.{Option, none, some}
+use Rattle.std.specs.Prelude.{unwrap_or}
+use Rattle.std.specs.Prelude.{Option, None, Some}
 use Prim.Native.Nat.{ℕ, zero, suc, ◌+◌, ◌*◌, ◌≤◌}
 use native.Mathlib.Omega.{arith}
 use lib.Dec.{leb, eqb}
@@ -16,7 +16,8 @@ use Rattle.model.specs.declared.Kind.TheVariants as kind
 use Rattle.model.specs.declared.Refusal.TheVariants.{UnknownVcpu, NotActive, NotRegistered}
 use Rattle.model.specs.declared.Local.{Local}
 use Rattle.model.specs.declared.Local.TheVariants as local
-use Rattle.model.specs.declared.Request.{Request}
+use Rattle.std.specs.Prelude.{Ok, Err}
+use Rattle.model.specs.Requests.{Parsed}
 use Rattle.model.specs.declared.Request.TheVariants as request
 use Rattle.model.specs.declared.Vcpu.{Vcpu}
 use Rattle.model.specs.declared.Module.{Module}
@@ -48,8 +49,8 @@ codes_are t (cause c b ∷ cs) = t c && codes_are t cs
 
 -- and of the code of the first that holds
 abbrev IsCode : (ℕ → Bool) → Option ℕ → Type 0
-IsCode t none = Unit {0}
-IsCode t (some c) = t c ≡ true
+IsCode t None = Unit {0}
+IsCode t (Some c) = t c ≡ true
 
 first_code : (t : ℕ → Bool) (cs : List Cause) → codes_are t cs ≡ true → IsCode t (first_cause cs)
 unfolding first_cause
@@ -57,7 +58,7 @@ first_code t [] h = tt
 first_code t (cause c b ∷ cs) h = pick b (t c) refl h (first_code t cs)
   where
     pick : (a d : Bool) → t c ≡ d → (d && codes_are t cs) ≡ true → (codes_are t cs ≡ true → IsCode t (first_cause cs))
-        → IsCode t (cond a (some c) (first_cause cs))
+        → IsCode t (cond a (Some c) (first_cause cs))
     pick true true e q r = e
     pick false true e q r = r q
     pick a false e q r = clash (cc)
@@ -74,13 +75,13 @@ late_codes k (allow cs q) = refl
 
 -- a code that is neither 1 nor 0
 abbrev Neither : Option ℕ → Type 0
-Neither o = (eqb (Option.get_or o 0) 1 ≡ false) × ((c : ℕ) → o ≡ some c → eqb c 0 ≡ false)
+Neither o = (eqb (unwrap_or o 0) 1 ≡ false) × ((c : ℕ) → o ≡ Some c → eqb c 0 ≡ false)
 
 neither_of : (o : Option ℕ) → IsCode (λ c. not (eqb c 1) && not (eqb c 0)) o → Neither o
-neither_of none h = (refl, λ c e. clash (cc))
-neither_of (some d) h = pick (eqb d 1) (eqb d 0) refl refl h
+neither_of None h = (refl, λ c e. clash (cc))
+neither_of (Some d) h = pick (eqb d 1) (eqb d 0) refl refl h
   where
-    pick : (a b : Bool) → eqb d 1 ≡ a → eqb d 0 ≡ b → (not a && not b) ≡ true → Neither (some d)
+    pick : (a b : Bool) → eqb d 1 ≡ a → eqb d 0 ≡ b → (not a && not b) ≡ true → Neither (Some d)
     pick true b p q r = clash (cc)
     pick false true p q r = clash (cc)
     pick false false p q r = (p, λ c e. let f : d ≡ c = cc in rw f at q)
@@ -91,7 +92,7 @@ later [] = []
 later (c ∷ cs) = cs
 
 -- the code of an event: 1 where the vCPU is unknown, and else neither 1 nor 0
-code_is : (m : Module) (e : Event) (P : Option ℕ → Bool → Type 0) → P (some 1) false → ((o : Option ℕ) → Neither o → P o true)
+code_is : (m : Module) (e : Event) (P : Option ℕ → Bool → Type 0) → P (Some 1) false → ((o : Option ℕ) → Neither o → P o true)
     → P (first_cause (causes m e)) (knows m e.vcpu)
 unfolding causes first_cause
 code_is m e P none' some' = rw (has_size m e.vcpu) (pick (knows m e.vcpu))
@@ -99,16 +100,16 @@ code_is m e P none' some' = rw (has_size m e.vcpu) (pick (knows m e.vcpu))
     known : Neither (first_cause (later (causes m e)))
     known = neither_of _ (first_code (λ c. not (eqb c 1) && not (eqb c 0)) (later (causes m e)) (late_codes m.registrations e.act))
 
-    pick : (b : Bool) → P (cond (not b) (some 1) (first_cause (later (causes m e)))) b
+    pick : (b : Bool) → P (cond (not b) (Some 1) (first_cause (later (causes m e)))) b
     pick true = some' (first_cause (later (causes m e))) known
     pick false = none'
 
 unknown_exactly_lem : (m : Module) (e : Event) → eqb (code_in (step m e).result) 1 ≡ not (knows m e.vcpu)
 unknown_exactly_lem m e =
-    ap (λ (o : Option ℕ). eqb (Option.get_or o 0) 1) (refusals m e) ∙ code_is m e (λ o b. eqb (Option.get_or o 0) 1 ≡ not b) refl (λ o h. h.0)
+    ap (λ (o : Option ℕ). eqb (unwrap_or o 0) 1) (refusals m e) ∙ code_is m e (λ o b. eqb (unwrap_or o 0) 1 ≡ not b) refl (λ o h. h.0)
 
 -- a result with a code, which is not 0, is a refusal
-accepted_by : (r : Result) → ((c : ℕ) → refusal_of r ≡ some c → eqb c 0 ≡ false) → accepted r ≡ eqb (code_in r) 0
+accepted_by : (r : Result) → ((c : ℕ) → refusal_of r ≡ Some c → eqb c 0 ≡ false) → accepted r ≡ eqb (code_in r) 0
 accepted_by (done x) h = refl
 accepted_by (counted a b) h = refl
 accepted_by (answers a) h = refl
@@ -118,7 +119,7 @@ accepted_by (refused c) h = sym (h c refl)
 accepted_exactly_lem : (m : Module) (e : Event) → accepted (step m e).result ≡ eqb (code_in (step m e).result) 0
 accepted_exactly_lem m e =
     accepted_by (step m e).result
-    (λ c q. code_is m e (λ o b. o ≡ some c → eqb c 0 ≡ false) (λ (f : some 1 ≡ some c). let g : 1 ≡ c = cc in rw (sym g)) (λ o h. h.1 c) (sym (refusals m e) ∙ q))
+    (λ c q. code_is m e (λ o b. o ≡ Some c → eqb c 0 ≡ false) (λ (f : Some 1 ≡ Some c). let g : 1 ≡ c = cc in rw (sym g)) (λ o h. h.1 c) (sym (refusals m e) ∙ q))
 
 -- ---- a call that reads
 -- by its number
@@ -142,10 +143,10 @@ back_forgotten m i = ap (λ l. record { n = m.n; vmpl = m.vmpl; registrations = 
 
 module _ (m : Module) (i : ℕ) where
   -- the request of a call that reads
-  abbrev Looks : Request → Type 0
+  abbrev Looks : Parsed → Type 0
   Looks q = put_back m i (concluded (call_effect q i m.registrations (vcpu_at m i)) i m).after ≡ m
 
-  looks_features : Looks (request.Local local.Features)
+  looks_features : Looks (Ok (request.Local local.Features))
   unfolding concluded call_effect serve
   looks_features = back_forgotten m i
 
@@ -180,16 +181,16 @@ read_touches_lem m e h = over e.vcpu e.act h
     over i (allow cs q) h = clash (cc)
 
 -- ---- no call presents anything
-request_presents : (q : Request) (m : Module) (i : ℕ) → presented_by (concluded (call_effect q i m.registrations (vcpu_at m i)) i m).result ≡ none
+request_presents : (q : Parsed) (m : Module) (i : ℕ) → presented_by (concluded (call_effect q i m.registrations (vcpu_at m i)) i m).result ≡ None
 unfolding concluded call_effect
-request_presents (request.Local o) m i = refl
-request_presents (request.Icr x) m i = refl
-request_presents (request.Refused c) m i = refl
+request_presents (Ok (request.Local o)) m i = refl
+request_presents (Ok (request.Icr x)) m i = refl
+request_presents (Err c) m i = refl
 
-pub call_presents_lem : (m : Module) (i op c x : ℕ) → presented_by (step m (at i (call op c x))).result ≡ none
+pub call_presents_lem : (m : Module) (i op c x : ℕ) → presented_by (step m (at i (call op c x))).result ≡ None
 unfolding effect
 call_presents_lem m i op c x =
-    by_verdict_lem m (at i (call op c x)) (λ o. presented_by o.result ≡ none) (λ c e. refl) (λ e. request_presents (request_of op c x) m i)
+    by_verdict_lem m (at i (call op c x)) (λ o. presented_by o.result ≡ None) (λ c e. refl) (λ e. request_presents (request_of op c x) m i)
 
 -- ---- a count of 0
 zero_serve : (o : Local) (i k : ℕ) (v : Vcpu) → k ≡ 0 → (serve o i k v).verdict ≡ accept → (serve o i k v).registrations ≡ 0
@@ -205,11 +206,11 @@ zero_serve (local.SetTpr x) i k v e h = e
 zero_serve local.Eoi i k v e h = e
 zero_serve (local.SelfIpi x) i k v e h = e
 
-zero_call : (q : Request) (i k : ℕ) (v : Vcpu) → k ≡ 0 → call_verdict q i k (forget v) ≡ accept → (call_effect q i k v).registrations ≡ 0
+zero_call : (q : Parsed) (i k : ℕ) (v : Vcpu) → k ≡ 0 → call_verdict q i k (forget v) ≡ accept → (call_effect q i k v).registrations ≡ 0
 unfolding call_effect call_verdict
-zero_call (request.Local o) i k v e h = zero_serve o i k (forget v) e h
-zero_call (request.Icr x) i k v e h = e
-zero_call (request.Refused c) i k v e h = e
+zero_call (Ok (request.Local o)) i k v e h = zero_serve o i k (forget v) e h
+zero_call (Ok (request.Icr x)) i k v e h = e
+zero_call (Err c) i k v e h = e
 
 zero_effect : (l i k : ℕ) (v : Vcpu) (a : Act Bytes) → k ≡ 0 → vcpu_verdict i k v a ≡ accept → (effect l i k v a).registrations ≡ 0
 unfolding effect vcpu_verdict

@@ -2,7 +2,7 @@
 -- Assumes nothing.
 use mathlib.Core.Path.{◌≡◌, refl, sym, ap, ◌∙◌}
 use mathlib.Core.Bool.{Bool, true, false, cond, not, ◌&&◌, ◌||◌}
-use mathlib.Core.Option.{Option, none, some}
+use Rattle.std.specs.Prelude.{Option, None, Some}
 use Prim.Native.Nat.{ℕ, ◌≤◌, ◌<◌}
 use native.Mathlib.Omega.{arith}
 use lib.Dec.{leb, ltb}
@@ -11,7 +11,8 @@ use borrow.Author.Tests.{lt-ltb, le-ltb, lt-leb}
 use Rattle.model.specs.declared.Phase.{Phase}
 use Rattle.model.specs.declared.Phase.TheVariants.{Active, Leaving, Left}
 use Rattle.model.specs.declared.Refusal.TheVariants.{UnknownVcpu, ShortPage, NothingInFlight, NotActive, BadList}
-use Rattle.model.specs.declared.Request.{Request}
+use Rattle.std.specs.Prelude.{Ok, Err}
+use Rattle.model.specs.Requests.{Parsed}
 use Rattle.model.specs.declared.Request.TheVariants as request
 use Rattle.model.specs.declared.Module.{Module}
 use Rattle.model.specs.State.{is_active, is_leaving, has_left, is_in_flight, size, vcpu_at, may_start, started, stopped, start}
@@ -46,7 +47,7 @@ has_size m i = pick (leb m.n 32) (leb 1 m.vmpl) (leb m.vmpl 3)
 
 -- a hand-back, by the phase: both causes, of which one can hold
 by_phase : (s : Phase) (g : Verdict) (o : Option ℕ) → refusal_in g ≡ o
-    → refusal_in (need (is_leaving s) (hand_back_refusal s) g) ≡ cond (is_active s) (some 3) (cond (has_left s) (some 7) o)
+    → refusal_in (need (is_leaving s) (hand_back_refusal s) g) ≡ cond (is_active s) (Some 3) (cond (has_left s) (Some 7) o)
 by_phase Active g o e = refl
 by_phase Leaving g o e = e
 by_phase Left g o e = refl
@@ -55,39 +56,39 @@ verdict_causes : (m : Module) (i : ℕ) (a : Act Bytes) → refusal_in (verdict 
 unfolding verdict vcpu_verdict causes first_cause
 verdict_causes m i (notice p) =
     rw (has_size m i, ltb_leb (length p) 256)
-    (needs (ltb i (size m)) UnknownVcpu _ _ (needs (is_active (vcpu_at m i).phase) NotActive _ _ (needs (leb 256 (length p)) ShortPage accept none refl)))
+    (needs (ltb i (size m)) UnknownVcpu _ _ (needs (is_active (vcpu_at m i).phase) NotActive _ _ (needs (leb 256 (length p)) ShortPage accept None refl)))
 verdict_causes m i (call op c x) =
     rw (has_size m i)
     (needs (ltb i (size m)) UnknownVcpu _ _
     (needs (is_active (vcpu_at m i).phase) NotActive _ _ (numbers i (forget (vcpu_at m i)) m.registrations op c x)))
 verdict_causes m i (entry iF sh bl) =
-    rw (has_size m i) (needs (ltb i (size m)) UnknownVcpu _ _ (needs (is_active (vcpu_at m i).phase) NotActive accept none refl))
+    rw (has_size m i) (needs (ltb i (size m)) UnknownVcpu _ _ (needs (is_active (vcpu_at m i).phase) NotActive accept None refl))
 verdict_causes m i non_delivery =
     rw (has_size m i)
     (needs (ltb i (size m)) UnknownVcpu _ _
-    (needs (is_active (vcpu_at m i).phase) NotActive _ _ (needs (is_in_flight (vcpu_at m i).flight) NothingInFlight accept none refl)))
+    (needs (is_active (vcpu_at m i).phase) NotActive _ _ (needs (is_in_flight (vcpu_at m i).flight) NothingInFlight accept None refl)))
 verdict_causes m i (hand_back p iF sh) =
     rw (has_size m i, ltb_leb (length p) 256)
-    (needs (ltb i (size m)) UnknownVcpu _ _ (by_phase (vcpu_at m i).phase _ _ (needs (leb 256 (length p)) ShortPage accept none refl)))
+    (needs (ltb i (size m)) UnknownVcpu _ _ (by_phase (vcpu_at m i).phase _ _ (needs (leb 256 (length p)) ShortPage accept None refl)))
 verdict_causes m i (allow cs q) =
     rw (has_size m i, ltb_leb 256 (length cs), ltb_leb (length q) (length cs))
     (needs (ltb i (size m)) UnknownVcpu _ _
     (needs (is_active (vcpu_at m i).phase) NotActive _ _
-    (needs (list_fits cs q) BadList accept none refl ∙ ap (λ (b : Bool). cond b (some 6) none) (not_both (leb (length cs) 256) (leb (length cs) (length q))))))
+    (needs (list_fits cs q) BadList accept None refl ∙ ap (λ (b : Bool). cond b (Some 6) None) (not_both (leb (length cs) 256) (leb (length cs) (length q))))))
   where
     not_both : (a b : Bool) → not (a && b) ≡ (not a || not b)
     not_both true b = refl
     not_both false b = refl
 
 -- ---- an accepted event refuses nothing
-call_answers : (r : Request) (m : Module) (i : ℕ) → call_verdict r i m.registrations (forget (vcpu_at m i)) ≡ accept
-    → refusal_of (concluded (call_effect r i m.registrations (vcpu_at m i)) i m).result ≡ none
+call_answers : (r : Parsed) (m : Module) (i : ℕ) → call_verdict r i m.registrations (forget (vcpu_at m i)) ≡ accept
+    → refusal_of (concluded (call_effect r i m.registrations (vcpu_at m i)) i m).result ≡ None
 unfolding call_verdict call_effect concluded
-call_answers (request.Local o) m i e = refl
-call_answers (request.Icr x) m i e = refl
-call_answers (request.Refused c) m i e = clash (cc)
+call_answers (Ok (request.Local o)) m i e = refl
+call_answers (Ok (request.Icr x)) m i e = refl
+call_answers (Err c) m i e = clash (cc)
 
-pub answered : (m : Module) (i : ℕ) (a : Act Bytes) → verdict m (at i a) ≡ accept → refusal_of (concluded (effect_of m (at i a)) i m).result ≡ none
+pub answered : (m : Module) (i : ℕ) (a : Act Bytes) → verdict m (at i a) ≡ accept → refusal_of (concluded (effect_of m (at i a)) i m).result ≡ None
 unfolding effect concluded verdict vcpu_verdict
 answered m i (notice p) e = refl
 answered m i (call op c x) e =
@@ -131,7 +132,7 @@ starts : (n l : ℕ) → refusal_of (do_start n l).result ≡ first_cause (start
 unfolding do_start start_result start_causes first_cause
 starts n l = pick (leb 1 n) (leb n 32) (leb 1 l) (leb l 3)
   where
-    pick : (a b c d : Bool) → refusal_of (cond (a && b && c && d) (done 0) (refused 5)) ≡ cond (not (a && b && (c && d))) (some 5) none
+    pick : (a b c d : Bool) → refusal_of (cond (a && b && c && d) (done 0) (refused 5)) ≡ cond (not (a && b && (c && d))) (Some 5) None
     pick true true true true = refl
     pick true true true false = refl
     pick true true false d = refl
@@ -147,14 +148,14 @@ unstarted n l c e = pick (may_start n l) e
     pick false h = refl
 
 -- ---- every event gets code 1
-named : (r : Result) (c : ℕ) → refusal_of r ≡ some c → r ≡ refused c
+named : (r : Result) (c : ℕ) → refusal_of r ≡ Some c → r ≡ refused c
 named (done x) c e = clash (cc)
 named (counted a b) c e = clash (cc)
 named (answers a) c e = clash (cc)
 named (coded x ks) c e = clash (cc)
 named (refused d) c e = cc
 
-first_none : (m : Module) (e : Event) → size m ≡ 0 → first_cause (causes m e) ≡ some 1
+first_none : (m : Module) (e : Event) → size m ≡ 0 → first_cause (causes m e) ≡ Some 1
 unfolding causes first_cause
 first_none m e z = rw (has_size m e.vcpu, z, le-ltb e.vcpu 0 (omega arith))
 
@@ -190,7 +191,7 @@ module _ (m : Module) where
   unfolding causes first_cause
   unknown e h = named _ 1 (refusals m e ∙ first_1)
     where
-      first_1 : first_cause (causes m e) ≡ some 1
+      first_1 : first_cause (causes m e) ≡ Some 1
       first_1 = rw (has_size m e.vcpu, le-ltb e.vcpu (size m) h)
 
   inactive : (e : Event) → e.vcpu < size m → is_active (vcpu_at m e.vcpu).phase ≡ false → is_hand_back e.act ≡ false
@@ -198,13 +199,13 @@ module _ (m : Module) where
   unfolding causes first_cause
   inactive e h a b = named _ 0x80000001 (refusals m e ∙ first_phase)
     where
-      first_phase : first_cause (causes m e) ≡ some 0x80000001
+      first_phase : first_cause (causes m e) ≡ Some 0x80000001
       first_phase = rw (has_size m e.vcpu, lt-ltb e.vcpu (size m) h, b, a)
 
   module _ (i : ℕ) (p : Bytes) (iF sh : Bool) (h : i < size m) where
     -- the causes of a hand-back, by its phase and page
     hand_back_causes : refusal_of (step m (at i (hand_back p iF sh))).result
-        ≡ cond (is_active (vcpu_at m i).phase) (some 3) (cond (has_left (vcpu_at m i).phase) (some 7) (short_code (length p)))
+        ≡ cond (is_active (vcpu_at m i).phase) (Some 3) (cond (has_left (vcpu_at m i).phase) (Some 7) (short_code (length p)))
     unfolding causes first_cause
     hand_back_causes = refusals m (at i (hand_back p iF sh)) ∙ rw (has_size m i, lt-ltb i (size m) h)
 

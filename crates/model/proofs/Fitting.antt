@@ -9,7 +9,8 @@ use Rattle.model.specs.declared.Kind.{Kind}
 use Rattle.model.specs.declared.Kind.TheVariants as kind
 use Rattle.model.specs.declared.Local.{Local}
 use Rattle.model.specs.declared.Local.TheVariants as local
-use Rattle.model.specs.declared.Request.{Request}
+use Rattle.std.specs.Prelude.{Ok, Err}
+use Rattle.model.specs.Requests.{Parsed}
 use Rattle.model.specs.declared.Request.TheVariants as request
 use Rattle.model.specs.Registers.{kind_of}
 use Rattle.model.specs.Ipi.{icr_vector, icr_type, icr_shorthand, icr_is_fixed, icr_is_nmi, icr_reserved_clear, icr_legal, icr_item}
@@ -34,12 +35,12 @@ Fitting (local.SetTpr x) = Unit {0}
 Fitting local.Eoi = Unit {0}
 Fitting (local.SelfIpi x) = 31 ≤ x
 
-unfoldable pub FittingRequest : Request → Type 0
-FittingRequest (request.Local o) = Fitting o
-FittingRequest (request.Icr x) = IsVector (icr_item x)
-FittingRequest (request.Refused c) = Unit {0}
+unfoldable pub FittingRequest : Parsed → Type 0
+FittingRequest (Ok (request.Local o)) = Fitting o
+FittingRequest (Ok (request.Icr x)) = IsVector (icr_item x)
+FittingRequest (Err c) = Unit {0}
 
-either : (b : Bool) (r s : Request) → (b ≡ true → FittingRequest r) → FittingRequest s → FittingRequest (cond b r s)
+either : (b : Bool) (r s : Parsed) → (b ≡ true → FittingRequest r) → FittingRequest s → FittingRequest (cond b r s)
 either true r s p q = p refl
 either false r s p q = q
 

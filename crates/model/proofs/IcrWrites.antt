@@ -12,7 +12,8 @@ use Rattle.model.specs.declared.Item.{Item}
 use Rattle.model.specs.declared.Item.TheVariants as item
 use Rattle.model.specs.declared.Target.{Target}
 use Rattle.model.specs.declared.Refusal.TheVariants.{UnknownVcpu, NotActive}
-use Rattle.model.specs.declared.Request.{Request}
+use Rattle.std.specs.Prelude.{Ok}
+use Rattle.model.specs.Requests.{Parsed}
 use Rattle.model.specs.declared.Request.TheVariants as request
 use Rattle.model.specs.declared.Vcpu.{Vcpu}
 use Rattle.model.specs.declared.Module.{Module}
@@ -35,7 +36,7 @@ over accept f i m = concluded f i m
 over (refuse c) f i m = refusal c m []
 
 -- what the vCPU i gets that asks for r
-abbrev pub asks : Module → ℕ → Request → Out
+abbrev pub asks : Module → ℕ → Parsed → Out
 asks m i r =
     over (need (ltb i (size m)) UnknownVcpu (need (is_active (vcpu_at m i).phase) NotActive (call_verdict r i m.registrations (forget (vcpu_at m i)))))
     (call_effect r i m.registrations (vcpu_at m i)) i m
@@ -49,11 +50,11 @@ by_request m i op c x = pick (verdict m (at i (call op c x)))
     pick (refuse r) = refl
 
 -- what a write asks for
-asked : (x : ℕ) → request_of 3 0x830 x ≡ cond (icr_legal x) (request.Icr x) bad
+asked : (x : ℕ) → request_of 3 0x830 x ≡ cond (icr_legal x) (Ok (request.Icr x)) bad
 unfolding request_of write_value kind_of is_read is_write is_both
 asked x = refl
 
-written : (m : Module) (i x : ℕ) → step m (writes_icr i x) ≡ asks m i (cond (icr_legal x) (request.Icr x) bad)
+written : (m : Module) (i x : ℕ) → step m (writes_icr i x) ≡ asks m i (cond (icr_legal x) (Ok (request.Icr x)) bad)
 written m i x = by_request m i 3 0x830 x ∙ ap (asks m i) (asked x)
 
 -- ---- the module after it, the caller's ICR aside
@@ -89,13 +90,13 @@ Same i o p = (o.result ≡ p.result) × (with_icr_at i 0 o.after ≡ with_icr_at
 
 -- what writes of x and of y give that send the same
 same_asks : (m : Module) (i x y : ℕ) (b : Bool) → icr_item x ≡ icr_item y → icr_target x ≡ icr_target y
-    → Same i (asks m i (cond b (request.Icr x) bad)) (asks m i (cond b (request.Icr y) bad))
+    → Same i (asks m i (cond b (Ok (request.Icr x)) bad)) (asks m i (cond b (Ok (request.Icr y)) bad))
 unfolding call_verdict call_effect concluded
 same_asks m i x y false p q = (refl, refl)
 same_asks m i x y true p q = pick (ltb i (size m)) (is_active (vcpu_at m i).phase)
   where
     reply : ℕ → Effect
-    reply z = call_effect (request.Icr z) i m.registrations (vcpu_at m i)
+    reply z = call_effect (Ok (request.Icr z)) i m.registrations (vcpu_at m i)
 
     pick : (a c : Bool)
         → Same i (over (need a UnknownVcpu (need c NotActive accept)) (reply x) i m) (over (need a UnknownVcpu (need c NotActive accept)) (reply y) i m)
@@ -113,7 +114,7 @@ same_write_lem m i x y e =
     let d = same_delivery_lem x y e in
     let s = same_asks m i x y (icr_legal x) d.item d.target in
     let p = written m i x in
-    let q = written m i y ∙ ap (λ (b : Bool). asks m i (cond b (request.Icr y) bad)) (sym d.legal) in
+    let q = written m i y ∙ ap (λ (b : Bool). asks m i (cond b (Ok (request.Icr y)) bad)) (sym d.legal) in
     record {
       result = ap (λ (o : Out). o.result) p ∙ s.0 ∙ sym (ap (λ (o : Out). o.result) q);
       after = ap (λ (o : Out). with_icr_at i 0 o.after) p ∙ s.1 ∙ sym (ap (λ (o : Out). with_icr_at i 0 o.after) q);
@@ -126,11 +127,11 @@ unfolding call_verdict serve call_effect concluded register_value request_of kin
 reads_at u i z a c = ap (λ (o : Out). o.result) (by_request u i 2 0x830 z) ∙ rw (a, c)
 
 -- an accepted write sends its value
-sends_value : (m : Module) (i x : ℕ) → verdict m (writes_icr i x) ≡ accept → request_of 3 0x830 x ≡ request.Icr x
+sends_value : (m : Module) (i x : ℕ) → verdict m (writes_icr i x) ≡ accept → request_of 3 0x830 x ≡ Ok (request.Icr x)
 unfolding verdict vcpu_verdict call_verdict
 sends_value m i x p = pick (icr_legal x) refl
   where
-    pick : (b : Bool) → icr_legal x ≡ b → request_of 3 0x830 x ≡ request.Icr x
+    pick : (b : Bool) → icr_legal x ≡ b → request_of 3 0x830 x ≡ Ok (request.Icr x)
     pick true e = asked x ∙ rw e
     pick false e =
         let g : request_of 3 0x830 x ≡ bad = asked x ∙ rw e in
@@ -143,7 +144,7 @@ abbrev pub written_after : Module → ℕ → ℕ → Module
 written_after m i x =
     sent (icr_item x) (icr_target x) i (with_registrations m.registrations (with_vcpu m i (with_icr x (forget (vcpu_at m i)))))
 
-after_write : (m : Module) (i x : ℕ) → request_of 3 0x830 x ≡ request.Icr x → (concluded (effect_of m (writes_icr i x)) i m).after ≡ written_after m i x
+after_write : (m : Module) (i x : ℕ) → request_of 3 0x830 x ≡ Ok (request.Icr x) → (concluded (effect_of m (writes_icr i x)) i m).after ≡ written_after m i x
 unfolding effect call_effect concluded
 after_write m i x e = rw e
 
@@ -181,7 +182,7 @@ reads_after m i x z k =
 pub number_of : {a b : ℕ} → done a ≡ done b → a ≡ b
 number_of q = cc
 
-answer_of : (m : Module) (i x : ℕ) → request_of 3 0x830 x ≡ request.Icr x
+answer_of : (m : Module) (i x : ℕ) → request_of 3 0x830 x ≡ Ok (request.Icr x)
     → (concluded (effect_of m (writes_icr i x)) i m).result ≡ done (new_bits (icr_item x) (icr_target x) i m)
 unfolding effect call_effect concluded
 answer_of m i x g = rw g

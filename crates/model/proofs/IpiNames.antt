@@ -15,6 +15,7 @@ use Rattle.model.specs.declared.Item.{Item}
 use Rattle.model.specs.declared.Item.TheVariants.{Nmi, MachineCheck, Vector}
 use Rattle.model.specs.declared.Local.TheVariants as local
 use Rattle.model.specs.declared.Refusal.TheVariants.{UnknownVcpu, NotActive}
+use Rattle.std.specs.Prelude.{Ok}
 use Rattle.model.specs.declared.Request.TheVariants as request
 use Rattle.model.specs.declared.Target.{Target}
 use Rattle.model.specs.declared.Vcpu.{Vcpu}
@@ -107,7 +108,7 @@ icr_reaches_lem m i x r k e below hit active =
     by_answer m i x r (λ b u. pending (icr_item x) (vcpu_at u k) ≡ true) (λ s. pending_after m i x k s.there ∙ rw (lt-ltb k (size m) below, hit, active)) e
 
 -- ---- a self-IPI
-self_asked : (x : ℕ) → request_of 3 0x83F x ≡ cond (is_vector x) (request.Local (local.SelfIpi x)) bad
+self_asked : (x : ℕ) → request_of 3 0x83F x ≡ cond (is_vector x) (Ok (request.Local (local.SelfIpi x))) bad
 unfolding request_of write_value kind_of is_read is_write is_both
 self_asked x = refl
 
@@ -133,7 +134,7 @@ self_after m i x = with_registrations m.registrations (with_vcpu m i (mark (Vect
 self_gives : (m : Module) (i x : ℕ) → is_vector x ≡ true
     → ((concluded (effect_of m (sends_self i x)) i m).result ≡ done (self_bits m i x)) × ((concluded (effect_of m (sends_self i x)) i m).after ≡ self_after m i x)
 unfolding effect call_effect concluded serve
-self_gives m i x e = let g : request_of 3 0x83F x ≡ request.Local (local.SelfIpi x) = self_asked x ∙ rw e in (rw g, rw g)
+self_gives m i x e = let g : request_of 3 0x83F x ≡ Ok (request.Local (local.SelfIpi x)) = self_asked x ∙ rw e in (rw g, rw g)
 
 pub vector_small : (x : ℕ) → is_vector x ≡ true → x < 256
 vector_small x e = pick (leb 31 x) (leb x 255) refl e

@@ -4,7 +4,7 @@
 use mathlib.Core.Path.{◌≡◌, refl, sym, ap, ◌∙◌, subst}
 use mathlib.Core.Bool.{Bool, true, false, cond, ◌&&◌, ◌||◌, or-true}
 use mathlib.Core.List.{List}
-use mathlib.Core.Option.{Option, none, some}
+use Rattle.std.specs.Prelude.{Option, None, Some}
 use Prim.Native.Nat.{ℕ, ◌<◌, ◌≤◌, ◌-◌}
 use native.Mathlib.Omega.{arith}
 use lib.Dec.{ltb, eqb}
@@ -14,7 +14,8 @@ use Rattle.model.specs.declared.Item.TheVariants as item
 use Rattle.model.specs.declared.Target.{Target}
 use Rattle.model.specs.declared.Local.{Local}
 use Rattle.model.specs.declared.Local.TheVariants as local
-use Rattle.model.specs.declared.Request.{Request}
+use Rattle.std.specs.Prelude.{Ok, Err}
+use Rattle.model.specs.Requests.{Parsed}
 use Rattle.model.specs.declared.Request.TheVariants as request
 use Rattle.model.specs.declared.Vcpu.{Vcpu}
 use Rattle.model.specs.declared.Module.{Module}
@@ -59,8 +60,8 @@ kept_leave Q false v h = h
 
 kept_ended : (Q : Said) (o : Option ℕ) (v : Vcpu) → On Q v → On Q (ended_at o v)
 unfolding ended_at
-kept_ended Q none v h = h
-kept_ended Q (some x) v h = h
+kept_ended Q None v h = h
+kept_ended Q (Some x) v h = h
 
 kept_serve : (Q : Said) → Marks Q → (o : Local) (i k : ℕ) (v : Vcpu) → On Q v → On Q (serve o i k v).vcpu
 unfolding serve ended
@@ -75,11 +76,11 @@ kept_serve Q s (local.SetTpr x) i k v h = h
 kept_serve Q s local.Eoi i k v h = kept_ended Q (highest v.isr) v h
 kept_serve Q s (local.SelfIpi x) i k v h = s (item.Vector x) refl v h
 
-kept_call : (Q : Said) → Marks Q → (r : Request) (i k : ℕ) (v : Vcpu) → On Q v → On Q (call_effect r i k v).vcpu
+kept_call : (Q : Said) → Marks Q → (r : Parsed) (i k : ℕ) (v : Vcpu) → On Q v → On Q (call_effect r i k v).vcpu
 unfolding call_effect
-kept_call Q s (request.Local o) i k v h = kept_serve Q s o i k (forget v) h
-kept_call Q s (request.Icr x) i k v h = h
-kept_call Q s (request.Refused c) i k v h = h
+kept_call Q s (Ok (request.Local o)) i k v h = kept_serve Q s o i k (forget v) h
+kept_call Q s (Ok (request.Icr x)) i k v h = h
+kept_call Q s (Err c) i k v h = h
 
 kept_delivered : (Q : Said) → Marks Q → (r : Reply) (i : ℕ) (m : Module) (j : ℕ) → On Q (vcpu_at m j) → On Q (vcpu_at (deliver r i m) j)
 kept_delivered Q s (gives r) i m j h = h

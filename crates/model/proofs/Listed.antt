@@ -3,7 +3,7 @@
 use mathlib.Core.Path.{◌≡◌, refl, sym, ap, ap₂, ◌∙◌, subst}
 use mathlib.Core.Bool.{Bool, true, false, cond, ◌&&◌}
 use mathlib.Core.List.{List, [], ◌∷◌, ◌++◌}
-use mathlib.Core.Option.{none}
+use Rattle.std.specs.Prelude.{None}
 use Prim.Native.Nat.{ℕ, zero, suc, ◌%◌, ◌≤◌, ◌<◌}
 use native.Mathlib.Omega.{arith}
 use lib.Dec.{leb, ltb}
@@ -14,7 +14,8 @@ use Rattle.vector_set.proofs.Laws.{clash}
 use Rattle.model.specs.declared.Local.TheVariants as local
 use Rattle.model.specs.declared.Refusal.{Refusal}
 use Rattle.model.specs.declared.Refusal.TheVariants.{UnknownVcpu, NotActive, BadList}
-use Rattle.model.specs.declared.Request.{Request}
+use Rattle.std.specs.Prelude.{Ok}
+use Rattle.model.specs.Requests.{Parsed}
 use Rattle.model.specs.declared.Request.TheVariants as request
 use Rattle.model.specs.declared.Vcpu.{Vcpu}
 use Rattle.model.specs.declared.Module.{Module}
@@ -39,8 +40,8 @@ abbrev one_out : Verdict → Vcpu → ℕ → Module → Out
 one_out g u i m = record { result = result_by g; after = with_vcpu m i (by_verdict g u (vcpu_at m i)); page = [] }
 
 -- what call 4 asks for, by whether its value is taken and by bit 8
-abbrev pub permission_by : ℕ → Bool → Bool → Request
-permission_by c n t = cond n (cond t (request.Local (local.Allow (c % 256))) (request.Local (local.Disallow (c % 256)))) bad
+abbrev pub permission_by : ℕ → Bool → Bool → Parsed
+permission_by c n t = cond n (cond t (Ok (request.Local (local.Allow (c % 256)))) (Ok (request.Local (local.Disallow (c % 256))))) bad
 
 one_out_lem : (m : Module) (i c : ℕ) (n t : Bool)
     → (let v = vcpu_at m i in let r = permission_by c n t in
@@ -126,7 +127,7 @@ is_served m i = ltb i (size m) && is_active (vcpu_at m i).phase
 refused_call : (m : Module) (i c x : ℕ) → is_served m i ≡ false → next m (at i (call 4 c x)) ≡ m
 refused_call m i c x h = ap (λ (o : Out). o.after) (by_request m i 4 c x) ∙ pick (ltb i (size m)) (is_active (vcpu_at m i).phase) h
   where
-    r : Request
+    r : Parsed
     r = request_of 4 c x
 
     pick : (a b : Bool) → (a && b) ≡ false
@@ -158,11 +159,11 @@ list_is_calls_lem m i x cs q l l' =
     (unserved (ltb i (size m)) (is_active (vcpu_at m i).phase) (list_fits cs q) d h (rw (le-leb (length cs) 256 l, le-leb (length cs) (length q) l')))))
     (λ h. count_same m i _ ∙ sym (all_after i x cs m (known_of m i (allow cs q) h)))
 
-pub list_gives_lem : (m : Module) (i x : ℕ) (cs : List ℕ) (q : Bytes) → refusal_of (step m (at i (allow cs q))).result ≡ none
+pub list_gives_lem : (m : Module) (i x : ℕ) (cs : List ℕ) (q : Bytes) → refusal_of (step m (at i (allow cs q))).result ≡ None
     → (step m (at i (allow cs q))).result ≡ coded 0 (codes_of m (singles i x cs))
 unfolding concluded effect
 list_gives_lem m i x cs q =
-    by_verdict_lem m (at i (allow cs q)) (λ o. refusal_of o.result ≡ none → o.result ≡ coded 0 (codes_of m (singles i x cs)))
+    by_verdict_lem m (at i (allow cs q)) (λ o. refusal_of o.result ≡ None → o.result ≡ coded 0 (codes_of m (singles i x cs)))
     (λ d h e. clash (cc))
     (λ h e. ap (coded 0) (sym (all_codes i x cs m (known_of m i (allow cs q) h))))
 
@@ -195,13 +196,13 @@ fits true true false d e = clash (cc)
 fits true false c d e = clash (cc)
 fits false b c d e = clash (cc)
 
-pub list_writes_lem : (m : Module) (i x : ℕ) (cs : List ℕ) (q : Bytes) → refusal_of (step m (at i (allow cs q))).result ≡ none
+pub list_writes_lem : (m : Module) (i x : ℕ) (cs : List ℕ) (q : Bytes) → refusal_of (step m (at i (allow cs q))).result ≡ None
     → (length (step m (at i (allow cs q))).page ≡ length q)
     × ((j : ℕ) → get_or (step m (at i (allow cs q))).page j 0 ≡ cond (ltb j (length cs)) (get_or (codes_of m (singles i x cs)) j 0) (get_or q j 0))
 unfolding verdict vcpu_verdict concluded effect
 list_writes_lem m i x cs q =
     by_verdict_lem m (at i (allow cs q))
-    (λ o. refusal_of o.result ≡ none
+    (λ o. refusal_of o.result ≡ None
     → (length o.page ≡ length q)
     × ((j : ℕ) → get_or o.page j 0 ≡ cond (ltb j (length cs)) (get_or (codes_of m (singles i x cs)) j 0) (get_or q j 0)))
     (λ d h e. clash (cc))

@@ -3,8 +3,8 @@
 use mathlib.Core.Path.{◌≡◌, refl, sym, ap, subst, ◌∙◌}
 use mathlib.Core.Bool.{Bool, true, false, cond, not, ◌&&◌, ◌||◌, and-true}
 use mathlib.Core.List.{List, []}
-use mathlib.Core.Option
-use mathlib.Core.Option.{Option, none, some}
+use Rattle.std.specs.Prelude.{unwrap_or}
+use Rattle.std.specs.Prelude.{Option, None, Some}
 use Prim.Native.Nat.{ℕ, ◌+◌, ◌*◌, ◌-◌, ◌/◌, ◌%◌, ◌<◌, ◌≤◌}
 use native.Mathlib.Omega.{arith}
 use lib.Dec.{leb, ltb, eqb}
@@ -18,7 +18,8 @@ use Rattle.model.specs.declared.Kind.{Kind}
 use Rattle.model.specs.declared.Kind.TheVariants as kind
 use Rattle.model.specs.declared.Local.{Local}
 use Rattle.model.specs.declared.Local.TheVariants as local
-use Rattle.model.specs.declared.Request.{Request}
+use Rattle.std.specs.Prelude.{Ok, Err}
+use Rattle.model.specs.Requests.{Parsed}
 use Rattle.model.specs.declared.Request.TheVariants as request
 use Rattle.model.specs.declared.Vcpu.{Vcpu}
 use Rattle.model.specs.declared.Module.{Module}
@@ -67,7 +68,7 @@ presented_in m i iF sh bl x l =
     (λ h e. rw (stored_at m i m.registrations (entered (offer iF sh bl v) (forget v)) (known_of m i (entry iF sh bl) h).there, same_answer e)
     (shown_in x l v))
 
-returned_in : (x : ℕ) → x < 256 → (v : Vcpu) → Requeued x v (undelivered (some (Vector x)) v)
+returned_in : (x : ℕ) → x < 256 → (v : Vcpu) → Requeued x v (undelivered (Some (Vector x)) v)
 unfolding undelivered give_back mark
 returned_in x l v = (
   has_remove x v.isr x l ∙ rw (eq-eqb x x refl),
@@ -102,8 +103,8 @@ above x iF sh bl v = first v.machine_check
     over false false y p e = clash (cc)
 
     high : (o : Option ℕ) → offer_highest (iF && not sh) (ppr v) o ≡ presents (Vector x) → leb (class x) (class (ppr v)) ≡ false
-    high none e = clash (cc)
-    high (some y) e = over (leb (class y) (class (ppr v))) (iF && not sh) y refl e
+    high None e = clash (cc)
+    high (Some y) e = over (leb (class y) (class (ppr v))) (iF && not sh) y refl e
 
     second : (b : Bool) → cond b (presents Nmi) (offer_highest (iF && not sh) (ppr v) (highest (in_marked v.summary v.irr))) ≡ presents (Vector x)
         → leb (class x) (class (ppr v)) ≡ false
@@ -139,16 +140,16 @@ unfolding ppr
 above_tpr_lem m i iF sh bl x e =
     let v = vcpu_at m i in
     let a = leb-false (class x) (class (ppr v)) (above x iF sh bl v (by_offer m i iF sh bl x e)) in
-    let b = (class_ppr v.tpr (Option.get_or (highest v.isr) 0)).0 in
+    let b = (class_ppr v.tpr (unwrap_or (highest v.isr) 0)).0 in
     omega (arith, a, b)
 
 -- a member is at most the highest
-below_highest : (s : List ℕ) (y : ℕ) → y < 256 → has s y ≡ true → y ≤ Option.get_or (highest s) 0
+below_highest : (s : List ℕ) (y : ℕ) → y < 256 → has s y ≡ true → y ≤ unwrap_or (highest s) 0
 below_highest s y l h = pick (highest s) refl
   where
-    pick : (o : Option ℕ) → highest s ≡ o → y ≤ Option.get_or o 0
-    pick none e = let z = highest_none s e y l in clash (cc)
-    pick (some x) e = low (ltb x y) refl
+    pick : (o : Option ℕ) → highest s ≡ o → y ≤ unwrap_or o 0
+    pick None e = let z = highest_none s e y l in clash (cc)
+    pick (Some x) e = low (ltb x y) refl
       where
         low : (b : Bool) → ltb x y ≡ b → y ≤ x
         low true q = let z = highest_above s x e y l (ltb-true x y q) in clash (cc)
@@ -160,13 +161,13 @@ unfolding ppr
 above_served_lem m i iF sh bl x y e l h =
     let v = vcpu_at m i in
     let a = leb-false (class x) (class (ppr v)) (above x iF sh bl v (by_offer m i iF sh bl x e)) in
-    let b = (class_ppr v.tpr (Option.get_or (highest v.isr) 0)).1 in
+    let b = (class_ppr v.tpr (unwrap_or (highest v.isr) 0)).1 in
     let c = below_highest v.isr y l h in
     omega (arith, a, b, c)
 
 -- ---- a call that touches its own record alone
 -- the record and the number that an accepted one gives, by its request
-local_after : (m : Module) (i op c x r : ℕ) (o : Local) → request_of op c x ≡ request.Local o → (step m (at i (call op c x))).result ≡ done r
+local_after : (m : Module) (i op c x r : ℕ) (o : Local) → request_of op c x ≡ Ok (request.Local o) → (step m (at i (call op c x))).result ≡ done r
     → (vcpu_at (next m (at i (call op c x))) i ≡ (serve o i m.registrations (forget (vcpu_at m i))).vcpu)
     × (r ≡ (serve o i m.registrations (forget (vcpu_at m i))).value)
 unfolding concluded effect call_effect
@@ -178,17 +179,17 @@ local_after m i op c x r o g =
     (λ h e. (rw g (stored_at m i t.registrations t.vcpu (known_of m i (call op c x) h).there), number_of (sym e ∙ rw g)))
 
 -- an accepted call asks for something
-asks_none : (m : Module) (i op c x r : ℕ) (d : Refusal) {A : Type 0} → request_of op c x ≡ request.Refused d → (step m (at i (call op c x))).result ≡ done r → A
+asks_none : (m : Module) (i op c x r : ℕ) (d : Refusal) {A : Type 0} → request_of op c x ≡ Err d → (step m (at i (call op c x))).result ≡ done r → A
 unfolding verdict vcpu_verdict call_verdict concluded effect call_effect
 asks_none m i op c x r d {A} g =
     by_verdict_lem m (at i (call op c x)) (λ u. u.result ≡ done r → A) (λ c h e. clash (cc)) (λ h e. clash (let q : refused (code_of d) ≡ done r = rw g at e in cc))
 
 -- ---- an EOI
-asks_eoi : request_of 3 0x80B 0 ≡ request.Local local.Eoi
+asks_eoi : request_of 3 0x80B 0 ≡ Ok (request.Local local.Eoi)
 unfolding request_of write_value kind_of is_read is_write is_both
 asks_eoi = refl
 
-ended_some : (m : Module) (i r x : ℕ) → x < 256 → highest (vcpu_at m i).isr ≡ some x → (step m (at i (call 3 0x80B 0))).result ≡ done r
+ended_some : (m : Module) (i r x : ℕ) → x < 256 → highest (vcpu_at m i).isr ≡ Some x → (step m (at i (call 3 0x80B 0))).result ≡ done r
     → (has (vcpu_at (next m (at i (call 3 0x80B 0))) i).isr x ≡ false)
     × (has (vcpu_at (next m (at i (call 3 0x80B 0))) i).isr_level x ≡ false)
     × (r ≡ cond (has (vcpu_at m i).isr_level x) x 0)
@@ -196,13 +197,13 @@ unfolding serve ended ended_at ended_level ended_level_at
 ended_some m i r x l h e =
     let v = vcpu_at m i in
     let a = local_after m i 3 0x80B 0 r local.Eoi asks_eoi e in
-    let b : ended (forget v) ≡ ended_at (some x) (forget v) = ap (λ o. ended_at o (forget v)) h in (
+    let b : ended (forget v) ≡ ended_at (Some x) (forget v) = ap (λ o. ended_at o (forget v)) h in (
       ap (λ (u : Vcpu). has u.isr x) (a.0 ∙ b) ∙ has_remove x v.isr x l ∙ rw (eq-eqb x x refl),
       ap (λ (u : Vcpu). has u.isr_level x) (a.0 ∙ b) ∙ has_remove x v.isr_level x l ∙ rw (eq-eqb x x refl),
       a.1 ∙ ap (λ o. ended_level_at o v.isr_level) h,
     )
 
-ended_none_lem : (m : Module) (i r : ℕ) → highest (vcpu_at m i).isr ≡ none → (step m (at i (call 3 0x80B 0))).result ≡ done r → r ≡ 0
+ended_none_lem : (m : Module) (i r : ℕ) → highest (vcpu_at m i).isr ≡ None → (step m (at i (call 3 0x80B 0))).result ≡ done r → r ≡ 0
 unfolding serve ended_level ended_level_at
 ended_none_lem m i r h e = (local_after m i 3 0x80B 0 r local.Eoi asks_eoi e).1 ∙ ap (λ o. ended_level_at o (vcpu_at m i).isr_level) h
 
@@ -318,20 +319,20 @@ notice_quiet_lem m i p h = by_page m i p (λ q. q ≡ p) refl (let e : 8 * 2 + (
 
 -- ---- the number of a call
 -- what a request gives where it tells nothing
-abbrev Quiet : Request → Type 0
-Quiet (request.Local o) = (i k : ℕ) (v : Vcpu) → (serve o i k v).value ≡ 0
-Quiet (request.Icr x) = ⊥
-Quiet (request.Refused c) = Unit {0}
+abbrev Quiet : Parsed → Type 0
+Quiet (Ok (request.Local o)) = (i k : ℕ) (v : Vcpu) → (serve o i k v).value ≡ 0
+Quiet (Ok (request.Icr x)) = ⊥
+Quiet (Err c) = Unit {0}
 
 quiet_write : (c x : ℕ) → (eqb c 0x80B || eqb c 0x83F || eqb c 0x830) ≡ false → Quiet (write_value c x)
 unfolding write_value serve
 quiet_write c x h = pick (eqb c 0x80B) (eqb c 0x83F) (eqb c 0x808) (eqb c 0x830) (leb x 255) h
   where
     pick : (a b d e t : Bool) → (a || b || e) ≡ false
-        → Quiet (cond a (cond (eqb x 0) (request.Local local.Eoi) bad)
-        (cond b (cond (is_vector x) (request.Local (local.SelfIpi x)) bad)
-        (cond d (cond t (request.Local (local.SetTpr x)) bad)
-        (cond e (cond (icr_legal x) (request.Icr x) bad) (request.Refused BadRegister)))))
+        → Quiet (cond a (cond (eqb x 0) (Ok (request.Local local.Eoi)) bad)
+        (cond b (cond (is_vector x) (Ok (request.Local (local.SelfIpi x))) bad)
+        (cond d (cond t (Ok (request.Local (local.SetTpr x))) bad)
+        (cond e (cond (icr_legal x) (Ok (request.Icr x)) bad) (Err BadRegister)))))
     pick true b d e t h = clash (cc)
     pick false true d e t h = clash (cc)
     pick false false true e true h = λ i k v. refl
@@ -350,7 +351,7 @@ unfolding registration serve
 quiet_registration c = pick (eqb c 0) (eqb c 1) (eqb c 2)
   where
     pick : (a b d : Bool)
-        → Quiet (cond a (request.Local local.Leave) (cond b (request.Local local.Release) (cond d (request.Local local.Register) bad)))
+        → Quiet (cond a (Ok (request.Local local.Leave)) (cond b (Ok (request.Local local.Release)) (cond d (Ok (request.Local local.Register)) bad)))
     pick true b d = λ i k v. refl
     pick false true d = λ i k v. refl
     pick false false true = λ i k v. refl
@@ -360,7 +361,7 @@ quiet_permission : (c : ℕ) → Quiet (permission c)
 unfolding permission serve
 quiet_permission c = pick (nameable c) (bit_at c 8)
   where
-    pick : (a b : Bool) → Quiet (cond a (cond b (request.Local (local.Allow (c % 256))) (request.Local (local.Disallow (c % 256)))) bad)
+    pick : (a b : Bool) → Quiet (cond a (cond b (Ok (request.Local (local.Allow (c % 256)))) (Ok (request.Local (local.Disallow (c % 256))))) bad)
     pick true true = λ i k v. refl
     pick true false = λ i k v. refl
     pick false b = tt
@@ -370,9 +371,9 @@ unfolding request_of serve
 quiet_call op c x h = pick (eqb op 0) (eqb op 1) (eqb op 2) (eqb op 3) (eqb op 4) h
   where
     pick : (a b d e f : Bool) → (d || (e && (eqb c 0x80B || eqb c 0x83F || eqb c 0x830))) ≡ false
-        → Quiet (cond a (request.Local local.Features)
+        → Quiet (cond a (Ok (request.Local local.Features))
         (cond b (registration c)
-        (cond d (read_by (kind_of c) c) (cond e (write_by (kind_of c) c x) (cond f (permission c) (request.Refused UnknownCall))))))
+        (cond d (read_by (kind_of c) c) (cond e (write_by (kind_of c) c x) (cond f (permission c) (Err UnknownCall))))))
     pick true b d e f h = λ i k v. refl
     pick false true d e f h = quiet_registration c
     pick false false true e f h = clash (cc)
@@ -385,10 +386,10 @@ unfolding concluded effect call_effect
 call_gives_lem m i op c x r t =
     by_verdict_lem m (at i (call op c x)) (λ o. o.result ≡ done r → r ≡ 0) (λ c h e. clash (cc)) (λ h e. told (request_of op c x) (quiet_call op c x t) e)
   where
-    told : (q : Request) → Quiet q → result_for (call_effect q i m.registrations (vcpu_at m i)).reply i m ≡ done r → r ≡ 0
-    told (request.Local o) z e = number_of (sym e ∙ ap done (z i m.registrations (forget (vcpu_at m i))))
-    told (request.Icr y) z e = absurd z
-    told (request.Refused d) z e = clash (cc)
+    told : (q : Parsed) → Quiet q → result_for (call_effect q i m.registrations (vcpu_at m i)).reply i m ≡ done r → r ≡ 0
+    told (Ok (request.Local o)) z e = number_of (sym e ∙ ap done (z i m.registrations (forget (vcpu_at m i))))
+    told (Ok (request.Icr y)) z e = absurd z
+    told (Err d) z e = clash (cc)
 
 -- ---- the page of a hand-back
 -- an accepted one has room for its 64 bytes

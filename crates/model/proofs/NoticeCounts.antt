@@ -3,7 +3,7 @@
 use mathlib.Core.Path.{◌≡◌, refl, sym, ap, ap₂, ◌∙◌}
 use mathlib.Core.Bool.{Bool, true, false, cond, not, ◌&&◌, ◌||◌, and-false, or-false}
 use mathlib.Core.List.{List}
-use mathlib.Core.Option.{Option, none, some}
+use Rattle.std.specs.Prelude.{Option, None, Some}
 use Prim.Native.Nat.{ℕ, ◌+◌, ◌<◌}
 use native.Mathlib.Omega.{arith}
 use lib.Dec.{leb, eqb}
@@ -109,14 +109,14 @@ unfolding items_new items_merged
 together a v = item_count_split (λ x. in_part x a) (λ x. pending x v)
 
 -- a part without a level-sensitive vector, and one with a vector that is not in its edge set
-apart : (n c : Bool) (f : ℕ → Bool) (o : Option ℕ) → ((x : ℕ) → o ≡ some x → (x < 256) × (f x ≡ false))
+apart : (n c : Bool) (f : ℕ → Bool) (o : Option ℕ) → ((x : ℕ) → o ≡ Some x → (x < 256) × (f x ≡ false))
     → let a : Part = record { nmi = n; machine_check = c; level = o; edge = collect f } in item_count (λ x. in_part x a) ≡ items a
 unfolding item_count items
-apart n c f none h =
+apart n c f None h =
     let e : count (collect (λ v. has (collect f) v || false)) ≡ count (collect f) =
     ap count (collect_ext (λ v. has (collect f) v || false) f (λ v l. or-false (has (collect f) v) ∙ has_collect f v l)) in
     omega arith
-apart n c f (some x) h =
+apart n c f (Some x) h =
     let e : count (collect (λ v. has (collect f) v || eqb v x)) ≡ count (collect f) + 1 =
     ap count (collect_ext (λ v. has (collect f) v || eqb v x) (λ v. f v || eqb v x) (λ v l. ap (λ (t : Bool). t || eqb v x) (has_collect f v l)))
     ∙ count_with f x (h x refl).0 (h x refl).1 in
@@ -127,17 +127,17 @@ no_edge : (s m t : Bool) → (s && cond m (t && not true) (not true && true)) �
 no_edge s true t = ap (λ (u : Bool). s && u) (and-false t) ∙ and-false s
 no_edge s false t = and-false s
 
-same_vector : {x y : ℕ} → some y ≡ some x → x ≡ y
+same_vector : {x y : ℕ} → Some y ≡ Some x → x ≡ y
 same_vector e = cc
 
-level_apart : (a d : List ℕ) (x : ℕ) → admits_level a d ≡ some x → (x < 256) × (admits_edge a d x ≡ false)
+level_apart : (a d : List ℕ) (x : ℕ) → admits_level a d ≡ Some x → (x < 256) × (admits_edge a d x ≡ false)
 unfolding admits_level admits_edge
 level_apart a d x e = pick (bit_of d level_bit) (leb 31 (vector_field d)) (leb (vector_field d) 255) (has a (vector_field d)) refl e
   where
-    pick : (l b c g : Bool) → leb (vector_field d) 255 ≡ c → cond (l && (b && c) && g) (some (vector_field d)) none ≡ some x
+    pick : (l b c g : Bool) → leb (vector_field d) 255 ≡ c → cond (l && (b && c) && g) (Some (vector_field d)) None ≡ Some x
         → (x < 256)
         × ((is_vector x && has a x
-        && cond (bit_of d many_bit) (bit_of d x && not (is_level (cond (l && (b && c) && g) (some (vector_field d)) none) x))
+        && cond (bit_of d many_bit) (bit_of d x && not (is_level (cond (l && (b && c) && g) (Some (vector_field d)) None) x))
         (not l && eqb x (vector_field d))) ≡ false)
     pick true true true true u q =
         let f : x ≡ vector_field d = same_vector q in
@@ -156,7 +156,7 @@ admitted_sum l a p = pick (announces l p)
     pick true =
         apart (admits_mark nmi_bit 2 a (descriptor l p)) (admits_mark machine_check_bit 18 a (descriptor l p)) (admits_edge a (descriptor l p))
         (admits_level a (descriptor l p)) (level_apart a (descriptor l p))
-    pick false = apart false false (λ v. false) none (λ x e. clash (cc))
+    pick false = apart false false (λ v. false) None (λ x e. clash (cc))
 
 pub items_sum : (l : ℕ) (a p : List ℕ) (v : Vcpu) → items_new (admitted l a p) v + items_merged (admitted l a p) v ≡ items (admitted l a p)
 items_sum l a p v = together (admitted l a p) v ∙ admitted_sum l a p

@@ -3,7 +3,7 @@
 use mathlib.Core.Path.{◌≡◌, refl, sym, ap, ap₂, ◌∙◌}
 use mathlib.Core.Bool.{Bool, true, false, cond, not, ◌&&◌, ◌||◌, or-false, and-false, and_comm}
 use mathlib.Core.List.{[], ◌∷◌}
-use mathlib.Core.Option.{Option, none, some}
+use Rattle.std.specs.Prelude.{Option, None, Some}
 use Prim.Native.Nat.{ℕ, zero, suc, ◌/◌, ◌%◌, ◌^◌, ◌≤◌}
 use native.Mathlib.Omega.{arith}
 use lib.Dec.{leb, ltb, eqb}
@@ -13,7 +13,8 @@ use Rattle.model.specs.declared.Kind.TheVariants as kind
 use Rattle.model.specs.declared.Refusal.{Refusal}
 use Rattle.model.specs.declared.Refusal.TheVariants.{BadParameter, RegistrationsFull, NotRegistered}
 use Rattle.model.specs.declared.Local.TheVariants as local
-use Rattle.model.specs.declared.Request.{Request}
+use Rattle.std.specs.Prelude.{Ok, Err}
+use Rattle.model.specs.Requests.{Parsed}
 use Rattle.model.specs.declared.Request.TheVariants as request
 use Rattle.model.specs.declared.Vcpu.{Vcpu}
 use Rattle.model.specs.Codes.{code_of, Verdict, accept, refuse, need}
@@ -29,24 +30,24 @@ use Rattle.model.proofs.Tests.{eqb_above, ltb_leb, zero_leb}
 
 -- ---- the code of a verdict
 abbrev pub refusal_in : Verdict → Option ℕ
-refusal_in accept = none
-refusal_in (refuse c) = some (code_of c)
+refusal_in accept = None
+refusal_in (refuse c) = Some (code_of c)
 
 -- a test that must pass is a cause where it fails
-pub needs : (a : Bool) (c : Refusal) (g : Verdict) (o : Option ℕ) → refusal_in g ≡ o → refusal_in (need a c g) ≡ cond (not a) (some (code_of c)) o
+pub needs : (a : Bool) (c : Refusal) (g : Verdict) (o : Option ℕ) → refusal_in g ≡ o → refusal_in (need a c g) ≡ cond (not a) (Some (code_of c)) o
 needs true c g o e = e
 needs false c g o e = refl
 
 -- ---- the numbers of a call on the record u of the vCPU j
 module _ (j : ℕ) (u : Vcpu) where
-  abbrev may : ℕ → Request → Verdict
+  abbrev may : ℕ → Parsed → Verdict
   may k r = call_verdict r j k u
 
   call_1 : (k c x : ℕ) → refusal_in (may k (registration c)) ≡ first_cause (call_causes k 1 c x)
   unfolding call_verdict serve registration call_causes bad_ecx first_cause
   call_1 k zero x = refl
   call_1 k (suc zero) x = refl
-  call_1 k (suc (suc zero)) x = rw (zero_leb k, ltb_leb 254 k) (needs (leb 1 k) NotRegistered _ _ (needs (leb k 254) RegistrationsFull accept none refl))
+  call_1 k (suc (suc zero)) x = rw (zero_leb k, ltb_leb 254 k) (needs (leb 1 k) NotRegistered _ _ (needs (leb k 254) RegistrationsFull accept None refl))
   call_1 k (suc (suc (suc c))) x =
       let d = suc (suc (suc c)) in
       rw (eqb_above d 0 (omega arith), eqb_above d 1 (omega arith), eqb_above d 2 (omega arith), lt-ltb 2 d (omega arith))
@@ -101,8 +102,8 @@ module _ (j : ℕ) (u : Vcpu) where
   call_value k c x n r = pick (eqb c 0x80B) (eqb c 0x83F) (eqb c 0x808) (eqb c 0x830) refl refl refl refl
     where
       -- a value that is taken where t holds
-      taken : (t : Bool) (y : Request) → refusal_in (may k y) ≡ none
-          → refusal_in (may k (cond t y (request.Refused BadParameter))) ≡ first_cause (cause 0x80000005 (not t) ∷ [])
+      taken : (t : Bool) (y : Parsed) → refusal_in (may k y) ≡ None
+          → refusal_in (may k (cond t y (Err BadParameter))) ≡ first_cause (cause 0x80000005 (not t) ∷ [])
       taken true y e = e
       taken false y e = refl
 
@@ -112,10 +113,10 @@ module _ (j : ℕ) (u : Vcpu) where
 
       pick : (e f g h : Bool) → eqb c 0x80B ≡ e → eqb c 0x83F ≡ f → eqb c 0x808 ≡ g → eqb c 0x830 ≡ h
           → refusal_in (may k (write_value c x)) ≡ first_cause (cause 0x80000005 (bad_value c x) ∷ [])
-      pick true f g h p q s t = rw (eqb-true c 0x80B p) (simp or-false (taken (eqb x 0) (request.Local local.Eoi) refl))
-      pick false true g h p q s t = rw (eqb-true c 0x83F q) (simp or-false (taken (is_vector x) (request.Local (local.SelfIpi x)) refl))
-      pick false false true h p q s t = rw (eqb-true c 0x808 s, ltb_leb 255 x) (simp or-false (taken (leb x 255) (request.Local (local.SetTpr x)) refl))
-      pick false false false true p q s t = rw (eqb-true c 0x830 t) (taken (icr_legal x) (request.Icr x) refl)
+      pick true f g h p q s t = rw (eqb-true c 0x80B p) (simp or-false (taken (eqb x 0) (Ok (request.Local local.Eoi)) refl))
+      pick false true g h p q s t = rw (eqb-true c 0x83F q) (simp or-false (taken (is_vector x) (Ok (request.Local (local.SelfIpi x))) refl))
+      pick false false true h p q s t = rw (eqb-true c 0x808 s, ltb_leb 255 x) (simp or-false (taken (leb x 255) (Ok (request.Local (local.SetTpr x))) refl))
+      pick false false false true p q s t = rw (eqb-true c 0x830 t) (taken (icr_legal x) (Ok (request.Icr x)) refl)
       pick false false false false p q s t = clash (neither (is_read c) (rw (p, q, s, t) at n) (rw (p, q, s, t) at r))
 
   call_3 : (k c x : ℕ) → refusal_in (may k (write_by (kind_of c) c x)) ≡ first_cause (call_causes k 3 c x)
@@ -159,7 +160,7 @@ module _ (j : ℕ) (u : Vcpu) where
       pick (nameable c) (bit_at c 8) ∙ ap (λ (t : Bool). first_cause (cause 0x80000005 (not t) ∷ [])) (sym (named_is c))
     where
       pick : (t b : Bool)
-          → refusal_in (may k (cond t (cond b (request.Local (local.Allow (c % 256))) (request.Local (local.Disallow (c % 256)))) bad))
+          → refusal_in (may k (cond t (cond b (Ok (request.Local (local.Allow (c % 256)))) (Ok (request.Local (local.Disallow (c % 256))))) bad))
           ≡ first_cause (cause 0x80000005 (not t) ∷ [])
       pick true true = refl
       pick true false = refl

@@ -2,7 +2,7 @@
 -- Assumes nothing.
 use mathlib.Core.Path.{◌≡◌, refl, sym, ap, ◌∙◌}
 use mathlib.Core.Bool.{Bool, true, false, cond, not, ◌&&◌, ◌||◌}
-use mathlib.Core.Option.{Option, none, some}
+use Rattle.std.specs.Prelude.{Option, None, Some}
 use Prim.Native.Nat.{ℕ}
 use lib.Dec.{leb}
 use Rattle.vector_set.specs.Sets.{highest}
@@ -49,8 +49,8 @@ pending_entered x r (window w) v = refl
 
 pending_undelivered : (x : Item) → InRange x → (o : Option Item) (v : Vcpu) → pending x (undelivered o v) ≡ (is_item x o || pending x v)
 unfolding undelivered
-pending_undelivered x r none v = refl
-pending_undelivered x r (some y) v = pending_give_back x r y v
+pending_undelivered x r None v = refl
+pending_undelivered x r (Some y) v = pending_give_back x r y v
 
 -- ---- an entry
 check_offered : (iF sh bl : Bool) (v : Vcpu) → is_item MachineCheck (presented_in (offer iF sh bl v)) ≡ v.machine_check
@@ -63,8 +63,8 @@ check_offered iF sh bl v = first v.machine_check
     over false false x = refl
 
     high : (o : Option ℕ) → is_item MachineCheck (presented_in (offer_highest (iF && not sh) (ppr v) o)) ≡ false
-    high none = refl
-    high (some x) = over (leb (class x) (class (ppr v))) (iF && not sh) x
+    high None = refl
+    high (Some x) = over (leb (class x) (class (ppr v))) (iF && not sh) x
 
     second : (b : Bool)
         → is_item MachineCheck (presented_in (cond b (presents Nmi) (offer_highest (iF && not sh) (ppr v) (highest (in_marked v.summary v.irr))))) ≡ false
@@ -133,8 +133,8 @@ return_pends_lem m i r x q =
 
 flight_returned : (o : Option Item) (v : Vcpu) → (undelivered o v).flight ≡ flight.Nothing
 unfolding undelivered
-flight_returned none v = refl
-flight_returned (some y) v = refl
+flight_returned None v = refl
+flight_returned (Some y) v = refl
 
 pub return_flight_lem : (m : Module) (i r : ℕ) → (step m (at i non_delivery)).result ≡ done r → (vcpu_at (next m (at i non_delivery)) i).flight ≡ flight.Nothing
 unfolding concluded effect

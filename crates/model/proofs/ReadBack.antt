@@ -3,8 +3,8 @@
 use mathlib.Core.Path.{◌≡◌, refl, sym, ap, ◌∙◌}
 use mathlib.Core.Bool.{Bool, true, false, cond, not, ◌&&◌, ◌||◌, or-false, or-true, and-true, and-false}
 use mathlib.Core.List.{List}
-use mathlib.Core.Option
-use mathlib.Core.Option.{Option, none, some}
+use Rattle.std.specs.Prelude.{unwrap_or, is_none}
+use Rattle.std.specs.Prelude.{Option, None, Some}
 use Prim.Native.Nat.{ℕ, ◌+◌, ◌*◌, ◌^◌, ◌<◌, ◌≤◌}
 use native.Mathlib.Omega.{arith}
 use lib.Dec.{leb, eqb}
@@ -23,7 +23,7 @@ use Rattle.model.proofs.LevelledLaws.{levelled_low}
 use Rattle.model.proofs.Bytes.{bit_of_byte, bytes_from_at, bytes_from_length, bytes_from_bit}
 use Rattle.model.proofs.Bytes.{map_bits_length, map_bits_bit, spliced_length, spliced_in, written_is}
 use Rattle.vector_set.specs.Bits.{bit_at, bits}
-use Rattle.vector_set.specs.Sets.{has, collect, full, difference, highest, is_none, is_empty}
+use Rattle.vector_set.specs.Sets.{has, collect, full, difference, highest, is_empty}
 use Rattle.vector_set.proofs.BitLaws.{bits_bit, bits_lt, bits_unique}
 use Rattle.vector_set.proofs.Laws.{has_full, collect_ext, has_collect, highest_has, is_empty_has}
 
@@ -151,7 +151,7 @@ module _ (v : Vcpu) (sound : Levelled v.irr v.irr_level) where
         le-leb x 255 (omega arith),
       )
 
-  bit_field : (b : ℕ) → b < 8 → handed_at v b ≡ bit_at (Option.get_or (highest v.irr_level) 0) b
+  bit_field : (b : ℕ) → b < 8 → handed_at v b ≡ bit_at (unwrap_or (highest v.irr_level) 0) b
   unfolding handed_at handed_bit
   bit_field b h =
       rw (
@@ -165,19 +165,19 @@ module _ (v : Vcpu) (sound : Levelled v.irr v.irr_level) where
       (simp or-false)
 
   -- bits 7:0
-  reads_field : vector_field d ≡ Option.get_or (highest v.irr_level) 0
+  reads_field : vector_field d ≡ unwrap_or (highest v.irr_level) 0
   reads_field =
       bytes_from_at (handed_at v) 0 32 0 (omega arith)
       ∙ sym
-      (bits_unique (handed_at v) 0 8 (Option.get_or (highest v.irr_level) 0) (small (highest v.irr_level) refl)
+      (bits_unique (handed_at v) 0 8 (unwrap_or (highest v.irr_level) 0) (small (highest v.irr_level) refl)
       (λ b h. let e : 0 + b ≡ b = omega arith in rw e (sym (bit_field b h))))
     where
-      small : (o : Option ℕ) → highest v.irr_level ≡ o → Option.get_or o 0 < 2 ^ 8
-      small none e = omega arith
-      small (some x) e = (highest_has v.irr_level x e).1
+      small : (o : Option ℕ) → highest v.irr_level ≡ o → unwrap_or o 0 < 2 ^ 8
+      small None e = omega arith
+      small (Some x) e = (highest_has v.irr_level x e).1
 
   -- the highest of PL is not below 31
-  level_vector : (x : ℕ) → highest v.irr_level ≡ some x → 31 ≤ x
+  level_vector : (x : ℕ) → highest v.irr_level ≡ Some x → 31 ≤ x
   level_vector x e =
       let a = highest_has v.irr_level x e in
       levelled_low v.irr v.irr_level sound x (sound.within x a.1 a.0)
@@ -192,9 +192,9 @@ module _ (v : Vcpu) (sound : Levelled v.irr v.irr_level) where
   reads_level = rw (bit_level, reads_field) (pick (highest v.irr_level) refl)
     where
       pick : (o : Option ℕ) → highest v.irr_level ≡ o
-          → cond (not (is_none o) && is_vector (Option.get_or o 0) && has full (Option.get_or o 0)) (some (Option.get_or o 0)) none ≡ o
-      pick none e = refl
-      pick (some x) e =
+          → cond (not (is_none o) && is_vector (unwrap_or o 0) && has full (unwrap_or o 0)) (Some (unwrap_or o 0)) None ≡ o
+      pick None e = refl
+      pick (Some x) e =
           let h : x < 256 = (highest_has v.irr_level x e).1 in
           rw (le-leb 31 x (level_vector x e), le-leb x 255 (omega arith), has_full x h)
 
@@ -205,8 +205,8 @@ module _ (v : Vcpu) (sound : Levelled v.irr v.irr_level) where
 
   -- the highest of PL is not marked
   level_unmarked : (x : ℕ) (o : Option ℕ) → highest v.irr_level ≡ o → (irr x && not (level x) && not (is_level o x)) ≡ (irr x && not (level x))
-  level_unmarked x none e = and-true (irr x && not (level x))
-  level_unmarked x (some y) e = pick (eqb x y) refl
+  level_unmarked x None e = and-true (irr x && not (level x))
+  level_unmarked x (Some y) e = pick (eqb x y) refl
     where
       pick : (b : Bool) → eqb x y ≡ b → (irr x && not (level x) && not b) ≡ (irr x && not (level x))
       pick false q = and-true (irr x && not (level x))
@@ -215,19 +215,19 @@ module _ (v : Vcpu) (sound : Levelled v.irr v.irr_level) where
           rw (m, and-false (irr x))
 
   -- with bits 10 and 14 clear, bits 7:0 are 0
-  level_none : (x : ℕ) → 31 ≤ x → (o : Option ℕ) → (not (not (is_none o)) && eqb x (Option.get_or o 0)) ≡ false
-  level_none x g none = eqb_above x 0 (omega arith)
-  level_none x g (some y) = refl
+  level_none : (x : ℕ) → 31 ≤ x → (o : Option ℕ) → (not (not (is_none o)) && eqb x (unwrap_or o 0)) ≡ false
+  level_none x g None = eqb_above x 0 (omega arith)
+  level_none x g (Some y) = refl
 
   high_edge : (x : ℕ) → 31 ≤ x → x < 256
       → cond (not (is_empty edges)) (irr x && not (level x) && not (is_level (highest v.irr_level) x))
-      (not (not (is_none (highest v.irr_level))) && eqb x (Option.get_or (highest v.irr_level) 0))
+      (not (not (is_none (highest v.irr_level))) && eqb x (unwrap_or (highest v.irr_level) 0))
       ≡ (irr x && not (level x))
   high_edge x g h = pick (is_empty edges) refl
     where
       pick : (b : Bool) → is_empty edges ≡ b
           → cond (not b) (irr x && not (level x) && not (is_level (highest v.irr_level) x))
-          (not (not (is_none (highest v.irr_level))) && eqb x (Option.get_or (highest v.irr_level) 0))
+          (not (not (is_none (highest v.irr_level))) && eqb x (unwrap_or (highest v.irr_level) 0))
           ≡ (irr x && not (level x))
       pick true e = level_none x g (highest v.irr_level) ∙ sym (none_marked_lem x g h e)
       pick false e = level_unmarked x (highest v.irr_level) refl
@@ -239,7 +239,7 @@ module _ (v : Vcpu) (sound : Levelled v.irr v.irr_level) where
       pick : (b : Bool) → leb 31 x ≡ b
           → (b && leb x 255 && has full x
           && cond (not (is_empty edges)) (bit_of d x && not (is_level (highest v.irr_level) x))
-          (not (not (is_none (highest v.irr_level))) && eqb x (Option.get_or (highest v.irr_level) 0)))
+          (not (not (is_none (highest v.irr_level))) && eqb x (unwrap_or (highest v.irr_level) 0)))
           ≡ (irr x && not (level x))
       pick false e = rw (sound.vectors x (leb-false 31 x e))
       pick true e =

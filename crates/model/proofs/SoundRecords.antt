@@ -3,7 +3,7 @@
 use mathlib.Core.Path.{◌≡◌, refl, sym, ◌∙◌}
 use mathlib.Core.Bool.{Bool, true, false, cond, not, ◌&&◌, ◌||◌, or-true}
 use mathlib.Core.List.{List}
-use mathlib.Core.Option.{Option, none, some}
+use Rattle.std.specs.Prelude.{Option, None, Some}
 use Prim.Native.Nat.{ℕ, ◌-◌, ◌<◌, ◌≤◌}
 use native.Mathlib.Omega.{arith}
 use lib.Dec.{leb, eqb}
@@ -14,7 +14,8 @@ use Rattle.model.specs.declared.Item.{Item}
 use Rattle.model.specs.declared.Item.TheVariants as item
 use Rattle.model.specs.declared.Local.{Local}
 use Rattle.model.specs.declared.Local.TheVariants as local
-use Rattle.model.specs.declared.Request.{Request}
+use Rattle.std.specs.Prelude.{Ok, Err}
+use Rattle.model.specs.Requests.{Parsed}
 use Rattle.model.specs.declared.Request.TheVariants as request
 use Rattle.model.specs.declared.Vcpu.{Vcpu}
 use Rattle.model.specs.State.{is_active, is_leaving}
@@ -128,8 +129,8 @@ sound_leave_if false v z h = h
 
 sound_ended_at : (o : Option ℕ) (v : Vcpu) → v.flight ≡ flight.Nothing → Formed v → Formed (ended_at o v)
 unfolding ended_at
-sound_ended_at none v z h = h
-sound_ended_at (some x) v z h = at_rest _ h.words h.nameable h.irr (levelled_remove x v.isr v.isr_level h.isr) z
+sound_ended_at None v z h = h
+sound_ended_at (Some x) v z h = at_rest _ h.words h.nameable h.irr (levelled_remove x v.isr v.isr_level h.isr) z
 
 named_insert : (x : ℕ) (s : List ℕ) → may_name x ≡ true → ((y : ℕ) → y < 256 → has s y ≡ true → may_name y ≡ true)
     → (y : ℕ) → y < 256 → has (insert x s) y ≡ true → may_name y ≡ true
@@ -162,11 +163,11 @@ sound_serve (local.SetTpr x) i k v q z h = at_rest _ h.words h.nameable h.irr h.
 sound_serve local.Eoi i k v q z h = sound_ended_at (highest v.isr) v z h
 sound_serve (local.SelfIpi x) i k v q z h = sound_mark (item.Vector x) v q h
 
-sound_call : (r : Request) (i k : ℕ) (v : Vcpu) → FittingRequest r → Formed v → Formed (call_effect r i k v).vcpu
+sound_call : (r : Parsed) (i k : ℕ) (v : Vcpu) → FittingRequest r → Formed v → Formed (call_effect r i k v).vcpu
 unfolding call_effect FittingRequest
-sound_call (request.Local o) i k v q h = sound_serve o i k (forget v) q refl (sound_forget v h)
-sound_call (request.Icr x) i k v q h = at_rest _ h.words h.nameable h.irr h.isr refl
-sound_call (request.Refused c) i k v q h = h
+sound_call (Ok (request.Local o)) i k v q h = sound_serve o i k (forget v) q refl (sound_forget v h)
+sound_call (Ok (request.Icr x)) i k v q h = at_rest _ h.words h.nameable h.irr h.isr refl
+sound_call (Err c) i k v q h = h
 
 -- ---- entry, non-delivery, hand-back
 -- a vector that an entry presents is one that P may hold
@@ -181,14 +182,14 @@ shown_offer : (iF sh bl : Bool) (v : Vcpu) → Formed v → Shown (offer iF sh b
 unfolding offer offer_with offer_highest
 shown_offer iF sh bl v h = first v.machine_check
   where
-    over : (a b : Bool) (x : ℕ) → highest (in_marked v.summary v.irr) ≡ some x → Shown (cond a nothing (cond b (presents (item.Vector x)) (window x)))
+    over : (a b : Bool) (x : ℕ) → highest (in_marked v.summary v.irr) ≡ Some x → Shown (cond a nothing (cond b (presents (item.Vector x)) (window x)))
     over true b x e = tt
     over false false x e = tt
     over false true x e = (levelled_low v.irr _ h.irr x (marked_has v.summary v.irr x e).0, (marked_has v.summary v.irr x e).1)
 
     high : (o : Option ℕ) → highest (in_marked v.summary v.irr) ≡ o → Shown (offer_highest (iF && not sh) (ppr v) o)
-    high none e = tt
-    high (some x) e = over (leb (class x) (class (ppr v))) (iF && not sh) x e
+    high None e = tt
+    high (Some x) e = over (leb (class x) (class (ppr v))) (iF && not sh) x e
 
     pick : (b : Bool) → Shown (cond b (presents item.Nmi) (offer_highest (iF && not sh) (ppr v) (highest (in_marked v.summary v.irr))))
     pick true = tt
@@ -221,8 +222,8 @@ sound_entered (window x) v q on h = sound_forget v h
 
 -- a vector that is_in_flight is one that P may hold
 abbrev Returned : Option Item → Type 0
-Returned none = Unit {0}
-Returned (some y) = IsVector y
+Returned None = Unit {0}
+Returned (Some y) = IsVector y
 
 returned_flying : (v : Vcpu) → Formed v → Returned (item_in_flight v.flight)
 returned_flying v h = go v.flight refl
@@ -235,10 +236,10 @@ returned_flying v h = go v.flight refl
 
 sound_undelivered : (o : Option Item) (v : Vcpu) → Returned o → Formed v → Formed (undelivered o v)
 unfolding undelivered give_back mark insert
-sound_undelivered none v q h = sound_forget v h
-sound_undelivered (some item.Nmi) v q h = at_rest _ h.words h.nameable h.irr h.isr refl
-sound_undelivered (some item.MachineCheck) v q h = at_rest _ h.words h.nameable h.irr h.isr refl
-sound_undelivered (some (item.Vector x)) v q h =
+sound_undelivered None v q h = sound_forget v h
+sound_undelivered (Some item.Nmi) v q h = at_rest _ h.words h.nameable h.irr h.isr refl
+sound_undelivered (Some item.MachineCheck) v q h = at_rest _ h.words h.nameable h.irr h.isr refl
+sound_undelivered (Some (item.Vector x)) v q h =
     at_rest _ h.words h.nameable (levelled_gains x v.isr_level v.irr v.irr_level q h.irr)
     (levelled_remove x v.isr v.isr_level h.isr) refl
 
@@ -256,11 +257,11 @@ abbrev pub Sending : Reply → Type 0
 Sending (gives r) = Unit {0}
 Sending (sends x) = IsVector (icr_item x)
 
-sending_call : (r : Request) (i k : ℕ) (v : Vcpu) → FittingRequest r → Sending (call_effect r i k v).reply
+sending_call : (r : Parsed) (i k : ℕ) (v : Vcpu) → FittingRequest r → Sending (call_effect r i k v).reply
 unfolding call_effect FittingRequest
-sending_call (request.Local o) i k v q = tt
-sending_call (request.Icr x) i k v q = q
-sending_call (request.Refused c) i k v q = tt
+sending_call (Ok (request.Local o)) i k v q = tt
+sending_call (Ok (request.Icr x)) i k v q = q
+sending_call (Err c) i k v q = tt
 
 pub sending_effect : (l i k : ℕ) (v : Vcpu) (a : Act Bytes) → Sending (effect l i k v a).reply
 unfolding effect

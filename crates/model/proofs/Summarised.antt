@@ -3,7 +3,7 @@
 use mathlib.Core.Path.{sym, ap, ◌∙◌}
 use mathlib.Core.Bool.{Bool, true, false, not, ◌&&◌, ◌||◌}
 use mathlib.Core.List.{List}
-use mathlib.Core.Option.{Option, none, some}
+use Rattle.std.specs.Prelude.{Option, None, Some}
 use Prim.Native.Nat.{ℕ, ◌-◌}
 use lib.Dec.{eqb}
 use Rattle.model.specs.declared.Phase.{Phase}
@@ -11,7 +11,8 @@ use Rattle.model.specs.declared.Item.{Item}
 use Rattle.model.specs.declared.Item.TheVariants as item
 use Rattle.model.specs.declared.Local.{Local}
 use Rattle.model.specs.declared.Local.TheVariants as local
-use Rattle.model.specs.declared.Request.{Request}
+use Rattle.std.specs.Prelude.{Ok, Err}
+use Rattle.model.specs.Requests.{Parsed}
 use Rattle.model.specs.declared.Request.TheVariants as request
 use Rattle.model.specs.declared.Vcpu.{Vcpu}
 use Rattle.model.specs.declared.Module.{Module}
@@ -80,13 +81,13 @@ return_summed (item.Vector x) v h = mark_summed (item.Vector x) v h
 
 undelivered_summed : (o : Option Item) (v : Vcpu) → Summed v → Summed (undelivered o v)
 unfolding undelivered
-undelivered_summed none v h = h
-undelivered_summed (some y) v h = return_summed y v h
+undelivered_summed None v h = h
+undelivered_summed (Some y) v h = return_summed y v h
 
 ended_summed : (o : Option ℕ) (v : Vcpu) → Summed v → Summed (ended_at o v)
 unfolding ended_at
-ended_summed none v h = h
-ended_summed (some x) v h = h
+ended_summed None v h = h
+ended_summed (Some x) v h = h
 
 leave_summed : (b : Bool) (v : Vcpu) → Summed v → Summed (leave_if b v)
 leave_summed true v h = h
@@ -105,11 +106,11 @@ serve_summed (local.SetTpr x) i k v h = h
 serve_summed local.Eoi i k v h = ended_summed (highest v.isr) v h
 serve_summed (local.SelfIpi x) i k v h = mark_summed (item.Vector x) v h
 
-call_summed : (r : Request) (i k : ℕ) (v : Vcpu) → Summed v → Summed (call_effect r i k v).vcpu
+call_summed : (r : Parsed) (i k : ℕ) (v : Vcpu) → Summed v → Summed (call_effect r i k v).vcpu
 unfolding call_effect
-call_summed (request.Local o) i k v h = serve_summed o i k (forget v) h
-call_summed (request.Icr x) i k v h = h
-call_summed (request.Refused c) i k v h = h
+call_summed (Ok (request.Local o)) i k v h = serve_summed o i k (forget v) h
+call_summed (Ok (request.Icr x)) i k v h = h
+call_summed (Err c) i k v h = h
 
 effect_summed : (l i k : ℕ) (v : Vcpu) (a : Act Bytes) → Summed v → Summed (effect l i k v a).vcpu
 unfolding effect noticed mark_all emptied unmark_all

@@ -3,7 +3,7 @@
 use mathlib.Core.Path.{◌≡◌, refl, ap, ◌∙◌}
 use mathlib.Core.Bool.{Bool, true, false, cond, ◌&&◌, ◌||◌, or-false}
 use mathlib.Core.List.{List, [], ◌∷◌}
-use mathlib.Core.Option.{Option, none, some}
+use Rattle.std.specs.Prelude.{Option, None, Some}
 use Prim.Native.Nat.{ℕ, ◌-◌, ◌%◌, ◌<◌}
 use lib.Dec.{leb, eqb}
 use borrow.Author.Tests.{eqb-true}
@@ -17,7 +17,8 @@ use Rattle.model.specs.declared.Refusal.{Refusal}
 use Rattle.model.specs.declared.Refusal.TheVariants.{UnknownCall, BadRegister, BadParameter}
 use Rattle.model.specs.declared.Local.{Local}
 use Rattle.model.specs.declared.Local.TheVariants as local
-use Rattle.model.specs.declared.Request.{Request}
+use Rattle.std.specs.Prelude.{Ok, Err}
+use Rattle.model.specs.Requests.{Parsed}
 use Rattle.model.specs.declared.Request.TheVariants as request
 use Rattle.model.specs.declared.Vcpu.{Vcpu}
 use Rattle.model.specs.declared.Module.{Module}
@@ -87,10 +88,10 @@ alike_entered (window x) v = refl
 
 alike_undelivered : (o : Option Item) (v : Vcpu) → AlikeBut (flight ∷ moved_fields o) (undelivered o v) v
 unfolding undelivered give_back mark
-alike_undelivered none v = refl
-alike_undelivered (some Nmi) v = refl
-alike_undelivered (some MachineCheck) v = refl
-alike_undelivered (some (Vector x)) v = refl
+alike_undelivered None v = refl
+alike_undelivered (Some Nmi) v = refl
+alike_undelivered (Some MachineCheck) v = refl
+alike_undelivered (Some (Vector x)) v = refl
 
 alike_noticed : (a : Part) (v : Vcpu) → AlikeBut (irr ∷ irr_level ∷ nmi ∷ machine_check ∷ summary ∷ []) (noticed a v) v
 unfolding noticed mark_all
@@ -136,13 +137,13 @@ gains_other : (x y : ℕ) (s t : List ℕ) → x < 256 → eqb x y ≡ false →
 gains_other x y s t l n = has_collect (λ v. has t v || (eqb v y && has s y)) x l ∙ rw n (or-false (has t x))
 
 -- an item that is not x becomes pending, or is so no more
-mark_other : (x : ℕ) → x < 256 → (y : Item) (v : Vcpu) → is_item (Vector x) (some y) ≡ false → has (mark y v).irr x ≡ has v.irr x
+mark_other : (x : ℕ) → x < 256 → (y : Item) (v : Vcpu) → is_item (Vector x) (Some y) ≡ false → has (mark y v).irr x ≡ has v.irr x
 mark_other x l y v n = pending_mark (Vector x) l y v ∙ rw n
 
-unmark_other : (x : ℕ) → x < 256 → (y : Item) (v : Vcpu) → is_item (Vector x) (some y) ≡ false → has (unmark y v).irr x ≡ has v.irr x
+unmark_other : (x : ℕ) → x < 256 → (y : Item) (v : Vcpu) → is_item (Vector x) (Some y) ≡ false → has (unmark y v).irr x ≡ has v.irr x
 unmark_other x l y v n = pending_unmark (Vector x) l y v ∙ rw n
 
-pub member_mark : (x : ℕ) → x < 256 → (y : Item) (v : Vcpu) → is_item (Vector x) (some y) ≡ false → MemberKept x (mark y v) v
+pub member_mark : (x : ℕ) → x < 256 → (y : Item) (v : Vcpu) → is_item (Vector x) (Some y) ≡ false → MemberKept x (mark y v) v
 unfolding mark
 member_mark x l Nmi v n f = kept x (mark Nmi v) v refl refl refl refl refl f
 member_mark x l MachineCheck v n f = kept x (mark MachineCheck v) v refl refl refl refl refl f
@@ -160,11 +161,11 @@ member_entered x l (window y) v n f = member_forget x v f
 
 member_undelivered : (x : ℕ) → x < 256 → (o : Option Item) (v : Vcpu) → is_item (Vector x) o ≡ false → MemberKept x (undelivered o v) v
 unfolding undelivered give_back mark
-member_undelivered x l none v n f = member_forget x v f
-member_undelivered x l (some Nmi) v n f = kept x (undelivered (some Nmi) v) v refl refl refl refl refl f
-member_undelivered x l (some MachineCheck) v n f = kept x (undelivered (some MachineCheck) v) v refl refl refl refl refl f
-member_undelivered x l (some (Vector y)) v n f =
-    kept x (undelivered (some (Vector y)) v) v refl (mark_other x l (Vector y) v n) (remove_other x y v.isr l n)
+member_undelivered x l None v n f = member_forget x v f
+member_undelivered x l (Some Nmi) v n f = kept x (undelivered (Some Nmi) v) v refl refl refl refl refl f
+member_undelivered x l (Some MachineCheck) v n f = kept x (undelivered (Some MachineCheck) v) v refl refl refl refl refl f
+member_undelivered x l (Some (Vector y)) v n f =
+    kept x (undelivered (Some (Vector y)) v) v refl (mark_other x l (Vector y) v n) (remove_other x y v.isr l n)
     (gains_other x y v.isr_level v.irr_level l n) (remove_other x y v.isr_level l n) f
 
 -- neither of two tests that fail together holds
@@ -219,14 +220,14 @@ member_leave x false v f = member_forget x v f
 
 alike_ended : (o : Option ℕ) (v : Vcpu) → AlikeBut (flight ∷ isr ∷ isr_level ∷ []) (ended_at o (forget v)) v
 unfolding ended_at
-alike_ended none v = refl
-alike_ended (some x) v = refl
+alike_ended None v = refl
+alike_ended (Some x) v = refl
 
 member_ended : (x : ℕ) → x < 256 → (o : Option ℕ) (v : Vcpu) → is_that x o ≡ false → MemberKept x (ended_at o (forget v)) v
 unfolding ended_at
-member_ended x l none v n f = member_forget x v f
-member_ended x l (some y) v n f =
-    kept x (ended_at (some y) (forget v)) v refl refl (remove_other x y v.isr l n) refl (remove_other x y v.isr_level l n) f
+member_ended x l None v n f = member_forget x v f
+member_ended x l (Some y) v n f =
+    kept x (ended_at (Some y) (forget v)) v refl refl (remove_other x y v.isr l n) refl (remove_other x y v.isr_level l n) f
 
 -- what a request does to the record is within its row
 fields_local : (o : Local) (i k : ℕ) (v : Vcpu) → AlikeBut (local_touches v o).own (serve o i k (forget v)).vcpu v
@@ -270,30 +271,30 @@ count_local local.Eoi i k v n = refl
 count_local (local.SelfIpi x) i k v n = refl
 
 -- the call whose request is r is within the row t
-abbrev Within : ℕ → ℕ → Vcpu → Touched → Request → Type 0
+abbrev Within : ℕ → ℕ → Vcpu → Touched → Parsed → Type 0
 Within i k v t r = Covers t v k (call_effect r i k v)
 
-within_local : (o : Local) (i k : ℕ) (v : Vcpu) → Within i k v (local_touches v o) (request.Local o)
+within_local : (o : Local) (i k : ℕ) (v : Vcpu) → Within i k v (local_touches v o) (Ok (request.Local o))
 unfolding call_effect
 within_local o i k v =
     record { fields = fields_local o i k v; vectors = vectors_local o i k v; count = count_local o i k v; sending = tt }
 
-within_icr : (x i k : ℕ) (v : Vcpu) → Within i k v (icr_touches x) (request.Icr x)
+within_icr : (x i k : ℕ) (v : Vcpu) → Within i k v (icr_touches x) (Ok (request.Icr x))
 unfolding call_effect
 within_icr x i k v =
     record {
       fields = fields_icr (icr_item x);
-      vectors = λ y l n f. kept y (call_effect (request.Icr x) i k v).vcpu v refl refl refl refl refl f;
+      vectors = λ y l n f. kept y (call_effect (Ok (request.Icr x)) i k v).vcpu v refl refl refl refl refl f;
       count = λ n. refl;
       sending = refl;
     }
   where
-    fields_icr : (y : Item) → AlikeBut (flight ∷ icr ∷ pending_fields y) (call_effect (request.Icr x) i k v).vcpu v
+    fields_icr : (y : Item) → AlikeBut (flight ∷ icr ∷ pending_fields y) (call_effect (Ok (request.Icr x)) i k v).vcpu v
     fields_icr Nmi = refl
     fields_icr MachineCheck = refl
     fields_icr (Vector z) = refl
 
-within_refused : (c : Refusal) (t : Touched) (i k : ℕ) (v : Vcpu) → Within i k v t (request.Refused c)
+within_refused : (c : Refusal) (t : Touched) (i k : ℕ) (v : Vcpu) → Within i k v t (Err c)
 unfolding call_effect
 within_refused c t i k v = record { fields = refl; vectors = λ x l n f. refl; count = λ n. refl; sending = tt }
 
@@ -305,7 +306,7 @@ within_registration c i k v = pick (eqb c 0) (eqb c 1) (eqb c 2)
     pick : (a b d : Bool)
         → Within i k v
         (cond a (local_touches v local.Leave) (cond b (local_touches v local.Release) (cond d (local_touches v local.Register) untouched)))
-        (cond a (request.Local local.Leave) (cond b (request.Local local.Release) (cond d (request.Local local.Register) bad)))
+        (cond a (Ok (request.Local local.Leave)) (cond b (Ok (request.Local local.Release)) (cond d (Ok (request.Local local.Register)) bad)))
     pick true b d = within_local local.Leave i k v
     pick false true d = within_local local.Release i k v
     pick false false true = within_local local.Register i k v
@@ -318,9 +319,9 @@ within_value r x i k v = pick (eqb r 0x80B) (eqb r 0x83F) (eqb r 0x808) (eqb r 0
     pick : (a b c d p q s t : Bool)
         → Within i k v
         (cond a (local_touches v local.Eoi) (cond b (local_touches v (local.SelfIpi x)) (cond c (local_touches v (local.SetTpr x)) (cond d (icr_touches x) untouched))))
-        (cond a (cond p (request.Local local.Eoi) bad)
-        (cond b (cond q (request.Local (local.SelfIpi x)) bad)
-        (cond c (cond s (request.Local (local.SetTpr x)) bad) (cond d (cond t (request.Icr x) bad) (request.Refused BadRegister)))))
+        (cond a (cond p (Ok (request.Local local.Eoi)) bad)
+        (cond b (cond q (Ok (request.Local (local.SelfIpi x))) bad)
+        (cond c (cond s (Ok (request.Local (local.SetTpr x))) bad) (cond d (cond t (Ok (request.Icr x)) bad) (Err BadRegister)))))
     pick true b c d true q s t = within_local local.Eoi i k v
     pick true b c d false q s t = within_refused BadParameter _ i k v
     pick false true c d p true s t = within_local (local.SelfIpi x) i k v
@@ -349,7 +350,7 @@ within_permission c i k v = pick (nameable c) (bit_at c 8)
   where
     pick : (a b : Bool)
         → Within i k v (only (flight ∷ allowed ∷ []) (λ y. eqb y (c % 256)))
-        (cond a (cond b (request.Local (local.Allow (c % 256))) (request.Local (local.Disallow (c % 256)))) bad)
+        (cond a (cond b (Ok (request.Local (local.Allow (c % 256)))) (Ok (request.Local (local.Disallow (c % 256))))) bad)
     pick true true = within_local (local.Allow (c % 256)) i k v
     pick true false = within_local (local.Disallow (c % 256)) i k v
     pick false b = within_refused BadParameter _ i k v
@@ -364,14 +365,14 @@ within_call op c x i k v = pick (eqb op 0) refl
         (cond b (write_touches v c x) (cond d (only (flight ∷ allowed ∷ []) (λ y. eqb y (c % 256)))
         (cond (eqb op 0 || eqb op 2) (only (flight ∷ []) no_vector) untouched)))
 
-    late : (a b : Bool) → Within i k v (rows false a b) (cond a (write_by (kind_of c) c x) (cond b (permission c) (request.Refused UnknownCall)))
+    late : (a b : Bool) → Within i k v (rows false a b) (cond a (write_by (kind_of c) c x) (cond b (permission c) (Err UnknownCall)))
     late true b = within_write (kind_of c) c x i k v
     late false true = within_permission c i k v
     late false false = within_refused UnknownCall _ i k v
 
     read : (b : Bool) → eqb op 2 ≡ b
         → Within i k v (rows false (eqb op 3) (eqb op 4))
-        (cond b (read_by (kind_of c) c) (cond (eqb op 3) (write_by (kind_of c) c x) (cond (eqb op 4) (permission c) (request.Refused UnknownCall))))
+        (cond b (read_by (kind_of c) c) (cond (eqb op 3) (write_by (kind_of c) c x) (cond (eqb op 4) (permission c) (Err UnknownCall))))
     read true e = rw (eqb-true op 2 e) (within_read (kind_of c) c i k v)
     read false e = late (eqb op 3) (eqb op 4)
 
@@ -379,15 +380,15 @@ within_call op c x i k v = pick (eqb op 0) refl
         → Within i k v (rows b (eqb op 3) (eqb op 4))
         (cond b (registration c)
         (cond (eqb op 2) (read_by (kind_of c) c)
-        (cond (eqb op 3) (write_by (kind_of c) c x) (cond (eqb op 4) (permission c) (request.Refused UnknownCall)))))
+        (cond (eqb op 3) (write_by (kind_of c) c x) (cond (eqb op 4) (permission c) (Err UnknownCall)))))
     early true = within_registration c i k v
     early false = read (eqb op 2) refl
 
     pick : (b : Bool) → eqb op 0 ≡ b → Within i k v (call_touches v op c x)
-        (cond b (request.Local local.Features)
+        (cond b (Ok (request.Local local.Features))
         (cond (eqb op 1) (registration c)
         (cond (eqb op 2) (read_by (kind_of c) c)
-        (cond (eqb op 3) (write_by (kind_of c) c x) (cond (eqb op 4) (permission c) (request.Refused UnknownCall))))))
+        (cond (eqb op 3) (write_by (kind_of c) c x) (cond (eqb op 4) (permission c) (Err UnknownCall))))))
     pick true e = rw (eqb-true op 0 e) (within_local local.Features i k v)
     pick false e = early (eqb op 1)
 

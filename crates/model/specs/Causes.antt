@@ -2,7 +2,7 @@
 -- statement of the verdict.
 -- Assumes nothing.
 use Rattle.std.specs.Prelude.{Bool, true, false, cond, not, ◌&&◌, ◌||◌, List, [], ◌∷◌, ℕ, ◌/◌, ◌%◌, ◌^◌, leb, ltb, eqb, length}
-use Rattle.std.proofs.Math.Option.{Option, none, some}
+use Rattle.std.specs.Prelude.{Option, None, Some}
 use Rattle.model.specs.declared.Kind.{Kind}
 use Rattle.model.specs.declared.Kind.TheVariants as kind
 use Rattle.model.specs.declared.Module.{Module}
@@ -18,8 +18,8 @@ pub data Cause : Type 0 where
 
 -- the code of the first cause that holds, if any does (11.12)
 unfoldable pub first_cause : List Cause → Option ℕ
-first_cause [] = none
-first_cause (cause c b ∷ cs) = cond b (some c) (first_cause cs)
+first_cause [] = None
+first_cause (cause c b ∷ cs) = cond b (Some c) (first_cause cs)
 
 -- ---- of an act
 abbrev pub is_hand_back : {P : Type 0} → Act P → Bool

@@ -1,16 +1,13 @@
 -- The number of each refusal, the verdict on an event, and what the functions' answers say (section 11).
 -- Assumes nothing.
-use Rattle.std.specs.Prelude.{Bool, true, false, List, ℕ}
-use Rattle.std.proofs.Math.Option.{Option, none, some, get_or}
+use Rattle.std.specs.Prelude.{Result as Fallible, Ok, Err, Bool, true, false, List, ℕ}
+use Rattle.std.specs.Prelude.{Option, None, Some, unwrap_or}
 use Rattle.model.specs.declared.Item.{Item}
 use Rattle.model.specs.declared.Item.TheVariants as item
 use Rattle.model.specs.declared.Refusal.{Refusal}
 use Rattle.model.specs.declared.Refusal.TheVariants.{UnknownVcpu, ShortPage, StillActive, NothingInFlight, BadStart, NotActive}
 use Rattle.model.specs.declared.Refusal.TheVariants.{UnknownCall, BadRegister, BadParameter, RegistrationsFull, NotRegistered, BadList, HasLeft}
-use Rattle.model.specs.declared.Outcome.{Outcome}
-use Rattle.model.specs.declared.Outcome.TheVariants as outcome
-use Rattle.model.specs.declared.Admission.{Admission}
-use Rattle.model.specs.declared.Admission.TheVariants as admission
+use Rattle.model.specs.declared.Counts.{Counts}
 use Rattle.model.specs.declared.Presentation.{Presentation}
 use Rattle.model.specs.declared.Presentation.TheVariants as presentation
 
@@ -64,29 +61,37 @@ pub data Result : Type 0 where
   coded : ℕ → List ℕ → Result
   refused : ℕ → Result
 
--- what an outcome says (13.9)
-abbrev pub result_of : Outcome → Result
-result_of (outcome.Done x) = done x
-result_of (outcome.Refused c) = refused (code_of c)
+-- what a function answers: an A, or why it refuses (13.9)
+abbrev pub Answered : Type 0 → Type 0
+Answered A = Fallible A Refusal
 
--- what a notice's admission says (4.29, 4.37, 13.9)
-abbrev pub admission_result : Admission → Result
-admission_result (admission.Items a b) = counted a b
-admission_result (admission.Refused c) = refused (code_of c)
+-- what a number says, of start, a guest call, a non-delivery or a hand-back (13.9)
+abbrev pub result_of : Answered ℕ → Result
+result_of (Ok x) = done x
+result_of (Err c) = refused (code_of c)
 
--- what an entry's presentation says (8.5, 13.9)
-abbrev pub presented_result : Presentation → Result
-presented_result presentation.Nothing = answers nothing
-presented_result presentation.Nmi = answers (presents item.Nmi)
-presented_result presentation.MachineCheck = answers (presents item.MachineCheck)
-presented_result (presentation.Vector v) = answers (presents (item.Vector v))
-presented_result (presentation.Window v) = answers (window v)
-presented_result (presentation.Refused c) = refused (code_of c)
+-- what a notice's counts say (4.29, 4.37, 13.9)
+abbrev pub admission_result : Answered Counts → Result
+admission_result (Ok a) = counted a.new a.merged
+admission_result (Err c) = refused (code_of c)
+
+-- what an entry's presentation says (8.5)
+abbrev pub answer_of : Presentation → Answer
+answer_of presentation.Nothing = nothing
+answer_of presentation.Nmi = presents item.Nmi
+answer_of presentation.MachineCheck = presents item.MachineCheck
+answer_of (presentation.Vector v) = presents (item.Vector v)
+answer_of (presentation.Window v) = window v
+
+-- the same of one that may be refused (8.5, 13.9)
+abbrev pub presented_result : Answered Presentation → Result
+presented_result (Ok p) = answers (answer_of p)
+presented_result (Err c) = refused (code_of c)
 
 -- what the answer to a list says, with the codes that it wrote (5.29, 5.30, 13.9)
-abbrev pub list_result : Outcome → List ℕ → Result
-list_result (outcome.Done x) ks = coded x ks
-list_result (outcome.Refused c) ks = refused (code_of c)
+abbrev pub list_result : Answered ℕ → List ℕ → Result
+list_result (Ok x) ks = coded x ks
+list_result (Err c) ks = refused (code_of c)
 
 -- ---- what a result says
 -- the event was accepted (12.23)
@@ -99,26 +104,26 @@ accepted (refused c) = false
 
 -- the code with which it refuses, if it does
 abbrev pub refusal_of : Result → Option ℕ
-refusal_of (done x) = none
-refusal_of (counted a b) = none
-refusal_of (answers a) = none
-refusal_of (coded x ks) = none
-refusal_of (refused c) = some c
+refusal_of (done x) = None
+refusal_of (counted a b) = None
+refusal_of (answers a) = None
+refusal_of (coded x ks) = None
+refusal_of (refused c) = Some c
 
 -- the code that it stands for in a list, 0 if it does not refuse (5.29, 13.71)
 abbrev pub code_in : Result → ℕ
-code_in r = get_or (refusal_of r) 0
+code_in r = unwrap_or (refusal_of r) 0
 
 -- the item that an entry's answer presents
 abbrev pub presented_in : Answer → Option Item
-presented_in nothing = none
-presented_in (presents y) = some y
-presented_in (window v) = none
+presented_in nothing = None
+presented_in (presents y) = Some y
+presented_in (window v) = None
 
 -- the item that an event presented (12.23)
 abbrev pub presented_by : Result → Option Item
-presented_by (done x) = none
-presented_by (counted a b) = none
+presented_by (done x) = None
+presented_by (counted a b) = None
 presented_by (answers a) = presented_in a
-presented_by (coded x ks) = none
-presented_by (refused c) = none
+presented_by (coded x ks) = None
+presented_by (refused c) = None

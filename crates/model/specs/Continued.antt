@@ -1,7 +1,7 @@
 -- What holds from any module value on, whatever was before it: for what stands above the module, and for lists that begin anywhere (13.111 to 13.118).
 -- Assumes nothing.
 use Rattle.std.specs.Prelude.{◌≡◌, Bool, true, false, not, ◌||◌, List, ℕ, ◌*◌, ◌≤◌, eqb, length, take, drop}
-use Rattle.std.proofs.Math.Option.{none}
+use Rattle.std.specs.Prelude.{None}
 use Rattle.model.specs.declared.Module.{Module}
 use Rattle.model.specs.State.{size, vcpu_at, may_start, start, with_vcpu, with_flight}
 use Rattle.model.specs.Codes.{accepted, code_in, presented_by}
@@ -48,7 +48,7 @@ pub record Continued : Type 0 where
   -- a call 0 or 2 changes what is in flight and nothing else (13.115)
   pub read_touches : (m : Module) (e : Event) → only_reads e.act ≡ true → put_back m e.vcpu (next m e) ≡ m
   -- no call presents anything (13.116)
-  pub call_presents : (m : Module) (i op c x : ℕ) → presented_by (step m (at i (call op c x))).result ≡ none
+  pub call_presents : (m : Module) (i op c x : ℕ) → presented_by (step m (at i (call op c x))).result ≡ None
   -- of its page a hand-back uses the length alone: one result, one module and one set of 64 bytes written (13.117)
   pub hand_back_alike : (m : Module) (i : ℕ) (p q : Bytes) (iF sh : Bool) → length p ≡ length q
       → ((step m (at i (hand_back p iF sh))).result ≡ (step m (at i (hand_back q iF sh))).result)

@@ -1,7 +1,7 @@
 -- Demand 1: nobody can stop the module (13.1 to 13.5, 13.101, 13.102, 13.105, 13.106). That every event ends is said by the functions' proofs.
 -- Assumes nothing.
 use Rattle.std.specs.Prelude.{◌≡◌, Bool, true, false, cond, List, ℕ, ◌<◌, ◌≤◌, ltb, length}
-use Rattle.std.proofs.Math.Option.{Option, none, some}
+use Rattle.std.specs.Prelude.{Option, None, Some}
 use Rattle.model.specs.declared.Module.{Module}
 use Rattle.model.specs.State.{is_active, is_leaving, has_left, size, vcpu_at, stopped}
 use Rattle.model.specs.Codes.{refused, refusal_of}
@@ -11,7 +11,7 @@ use Rattle.model.specs.Causes.{is_hand_back, first_cause, causes, start_causes}
 
 -- the code for a page of k bytes, if it is too short (11.2, 13.105)
 abbrev pub short_code : ℕ → Option ℕ
-short_code k = cond (ltb k 256) (some 2) none
+short_code k = cond (ltb k 256) (Some 2) None
 
 pub record Demand1 : Type 0 where
   -- the code is that of the first cause that holds, and an event is accepted where none does

@@ -3,7 +3,7 @@
 -- `start` is said by the functions' contracts; here is what else is claimed of them.
 -- Assumes nothing.
 use Rattle.std.specs.Prelude.{◌≡◌, Bool, true, false, cond, not, ◌&&◌, ◌||◌, List, map, ℕ, ◌+◌, ◌%◌, ◌^◌, ◌<◌, ◌≤◌, ltb, eqb, length, get_or}
-use Rattle.std.proofs.Math.Option.{none}
+use Rattle.std.specs.Prelude.{None}
 use Rattle.std.specs.Int.Bits.{bit_or}
 use Rattle.model.specs.declared.Item.{Item}
 use Rattle.model.specs.declared.Item.TheVariants.{MachineCheck, Vector}
@@ -194,9 +194,9 @@ pub record Demand2 : Type 0 where
   pub list_is_calls : (m : Module) (i x : ℕ) (cs : List ℕ) (q : Bytes) → length cs ≤ 256 → length cs ≤ length q
       → next m (at i (allow cs q)) ≡ final m (singles i x cs)
   -- an accepted one gives 0 and the codes of those calls (13.71)
-  pub list_gives : (m : Module) (i x : ℕ) (cs : List ℕ) (q : Bytes) → refusal_of (step m (at i (allow cs q))).result ≡ none
+  pub list_gives : (m : Module) (i x : ℕ) (cs : List ℕ) (q : Bytes) → refusal_of (step m (at i (allow cs q))).result ≡ None
       → (step m (at i (allow cs q))).result ≡ coded 0 (codes_of m (singles i x cs))
   -- its second list keeps its length, and has a code at the place of each value and at every other place what it had (13.72)
-  pub list_writes : (m : Module) (i x : ℕ) (cs : List ℕ) (q : Bytes) → refusal_of (step m (at i (allow cs q))).result ≡ none
+  pub list_writes : (m : Module) (i x : ℕ) (cs : List ℕ) (q : Bytes) → refusal_of (step m (at i (allow cs q))).result ≡ None
       → (length (step m (at i (allow cs q))).page ≡ length q)
       × ((j : ℕ) → get_or (step m (at i (allow cs q))).page j 0 ≡ cond (ltb j (length cs)) (get_or (codes_of m (singles i x cs)) j 0) (get_or q j 0))

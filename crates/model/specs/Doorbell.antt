@@ -1,8 +1,8 @@
 -- The doorbell page: what a notice admits, the page after a notice and after a hand-back (sections 4 and 10).
 -- Assumes nothing.
-use Rattle.std.specs.Prelude.{Bool, true, false, cond, not, ◌&&◌, ◌||◌, List, [], ◌∷◌, ◌++◌, ℕ, zero, suc, ◌+◌, ◌*◌, ◌-◌, ◌/◌, ◌%◌, leb, ltb, eqb, length, get_or, take, drop}
-use Rattle.std.proofs.Math.Option
-use Rattle.std.proofs.Math.Option.{Option, none, some}
+use Rattle.std.specs.Prelude.{Bool, true, false, cond, not, ◌&&◌, ◌||◌, List, [], ◌∷◌, ◌++◌, ℕ, zero, suc, ◌+◌, ◌*◌, ◌-◌, ◌/◌, ◌%◌, leb, ltb, eqb, length, get_or, take, drop, is_some}
+use Rattle.std.specs.Prelude.{unwrap_or}
+use Rattle.std.specs.Prelude.{Option, None, Some}
 use Rattle.model.specs.declared.Item.{Item}
 use Rattle.model.specs.declared.Item.TheVariants as item
 use Rattle.model.specs.Items.{member_of}
@@ -75,12 +75,12 @@ pub record Part : Type 0 where
 
 -- nothing is admitted (4.20)
 unfoldable pub no_part : Part
-no_part = record { nmi = false; machine_check = false; level = none; edge = empty }
+no_part = record { nmi = false; machine_check = false; level = None; edge = empty }
 
 -- v is the vector that there may be
 abbrev pub is_level : Option ℕ → ℕ → Bool
-is_level none v = false
-is_level (some x) v = eqb v x
+is_level None v = false
+is_level (Some x) v = eqb v x
 
 -- the item x is in a part
 abbrev pub in_part : Item → Part → Bool
@@ -95,7 +95,7 @@ admits_mark k x a d = bit_of d k && has a x
 -- the single vector, admitted as level-sensitive (4.17, 4.22, 4.23, 4.41)
 unfoldable pub admits_level : List ℕ → List ℕ → Option ℕ
 admits_level a d =
-    cond (bit_of d level_bit && is_vector (vector_field d) && has a (vector_field d)) (some (vector_field d)) none
+    cond (bit_of d level_bit && is_vector (vector_field d) && has a (vector_field d)) (Some (vector_field d)) None
 
 -- with bit 14 every marked vector but the level-sensitive one; with bits 10 and 14 clear the one in bits 7:0 (4.18, 4.19, 4.21 to 4.24, 4.41)
 unfoldable pub admits_edge : List ℕ → List ℕ → ℕ → Bool
@@ -116,10 +116,6 @@ admits a d =
 -- the admitted part of a page under the set A, at the VMPL l (4.6, 4.20)
 unfoldable pub admitted : ℕ → List ℕ → List ℕ → Part
 admitted l a p = cond (announces l p) (admits a (descriptor l p)) no_part
-
-abbrev pub is_some : Option ℕ → Bool
-is_some none = false
-is_some (some v) = true
 
 -- the number of admitted items, new and merged together (4.30)
 unfoldable pub items : Part → ℕ
@@ -149,7 +145,7 @@ noticed_page l p =
 -- bit k of the descriptor for P, PL and the marks of the NMI and of the machine check (10.5 to 10.9, 10.11, 10.17)
 unfoldable pub handed_bit : List ℕ → List ℕ → Bool → Bool → ℕ → Bool
 handed_bit irr level nmi mc k =
-    (leb k 7 && bit_at (Option.get_or (highest level) 0) k)
+    (leb k 7 && bit_at (unwrap_or (highest level) 0) k)
     || (eqb k nmi_bit && nmi)
     || (eqb k machine_check_bit && mc)
     || (eqb k level_bit && not (is_empty level))

@@ -1,23 +1,24 @@
 -- The events, and what each gives from every module value (sections 4 to 11).
 -- Assumes nothing.
-use Rattle.std.specs.Prelude.{Bool, true, false, cond, not, ◌&&◌, ◌||◌, List, [], ◌∷◌, ◌++◌, ℕ, ◌+◌, ◌*◌, leb, ltb, eqb, length, drop, take}
-use Rattle.std.proofs.Math.Option.{Option, none, some, get_or}
+use Rattle.std.specs.Prelude.{Ok, Err, Bool, true, false, cond, not, ◌&&◌, ◌||◌, List, [], ◌∷◌, ◌++◌, ℕ, ◌+◌, ◌*◌, leb, ltb, eqb, length, drop, take, is_some}
+use Rattle.std.specs.Prelude.{Option, None, Some, unwrap_or}
 use Rattle.model.specs.declared.Phase.{Phase}
 use Rattle.model.specs.declared.Phase.TheVariants.{Left}
 use Rattle.model.specs.declared.Item.{Item}
 use Rattle.model.specs.declared.Item.TheVariants.{Nmi, MachineCheck, Vector}
 use Rattle.model.specs.declared.Refusal.{Refusal}
 use Rattle.model.specs.declared.Refusal.TheVariants.{UnknownVcpu, ShortPage, StillActive, HasLeft, NothingInFlight, BadStart, NotActive, BadList}
-use Rattle.model.specs.declared.Request.{Request}
+use Rattle.std.specs.Prelude.{Ok, Err}
+use Rattle.model.specs.Requests.{Parsed}
 use Rattle.model.specs.declared.Request.TheVariants as request
 use Rattle.model.specs.declared.Vcpu.{Vcpu}
 use Rattle.model.specs.declared.Module.{Module}
 use Rattle.model.specs.declared.Stepped.{Stepped}
-use Rattle.model.specs.declared.Noticed.{Noticed}
-use Rattle.model.specs.declared.Entered.{Entered}
+use Rattle.model.specs.declared.Counts.{Counts}
+use Rattle.model.specs.declared.Presentation.{Presentation}
 use Rattle.model.specs.State.{is_active, is_leaving, is_in_flight, size, vcpu_at, may_start, start, with_vcpu, with_registrations}
 use Rattle.model.specs.State.{with_allowed, with_isr, with_irr_level, with_isr_level, with_icr, with_phase, with_flight}
-use Rattle.model.specs.Codes.{code_of, Verdict, accept, refuse, need, verdict_code, Answer, nothing, presents, window}
+use Rattle.model.specs.Codes.{code_of, Answered, Verdict, accept, refuse, need, verdict_code, Answer, nothing, presents, window}
 use Rattle.model.specs.Codes.{Result, done, counted, answers, coded, refused, presented_by, result_of, admission_result, presented_result, list_result}
 use Rattle.model.specs.Items.{item_count, item_in_flight, flight_of, pending, mark, unmark, mark_all, unmark_all}
 use Rattle.model.specs.Doorbell.{long_enough, Part, is_level, in_part, admitted, noticed_page, handed_bytes, written}
@@ -59,16 +60,16 @@ Event = On Bytes
 
 -- what an act lends to be written, if it does
 abbrev pub lends : {P : Type 0} → Act P → Option P
-lends (notice p) = some p
-lends (call op c x) = none
-lends (entry iF sh bl) = none
-lends non_delivery = none
-lends (hand_back p iF sh) = some p
-lends (allow cs q) = some q
+lends (notice p) = Some p
+lends (call op c x) = None
+lends (entry iF sh bl) = None
+lends non_delivery = None
+lends (hand_back p iF sh) = Some p
+lends (allow cs q) = Some q
 
 -- its bytes or entries, or none
 abbrev pub page_of : Act Bytes → Bytes
-page_of a = get_or (lends a) []
+page_of a = unwrap_or (lends a) []
 
 -- ---- what an event does to a record
 -- a notice: the items of its part become pending, the level-sensitive one also as such (4.25 to 4.28, 4.36, 4.42, 4.43, 5.4)
@@ -85,8 +86,8 @@ items_merged a v = item_count (λ x. in_part x a && pending x v)
 
 -- what an entry answers for the pending vector that it found. The first argument: IF holds and shadow does not; the second: PPR (8.8, 8.9, 8.11, 8.13)
 unfoldable pub offer_highest : Bool → ℕ → Option ℕ → Answer
-offer_highest ready p none = nothing
-offer_highest ready p (some x) = cond (leb (class x) (class p)) nothing (cond ready (presents (Vector x)) (window x))
+offer_highest ready p None = nothing
+offer_highest ready p (Some x) = cond (leb (class x) (class p)) nothing (cond ready (presents (Vector x)) (window x))
 
 -- what an entry answers where o is the pending vector that it finds, if it finds one: the machine check before all else, the NMI before any vector
 -- (8.6, 8.7, 8.10, 8.16 to 8.18)
@@ -126,8 +127,8 @@ give_back (Vector x) v =
 
 -- the record after a non-delivery of what was in flight (9.7, 9.8)
 unfoldable pub undelivered : Option Item → Vcpu → Vcpu
-undelivered none v = forget v
-undelivered (some y) v = forget (give_back y v)
+undelivered None v = forget v
+undelivered (Some y) v = forget (give_back y v)
 
 -- the record after a hand-back (5.4, 10.13, 10.14)
 unfoldable pub emptied : Vcpu → Vcpu
@@ -164,6 +165,10 @@ vcpu_verdict i k v (allow cs q) = need (is_active v.phase) NotActive (need (list
 abbrev pub knows : Module → ℕ → Bool
 knows m i = ltb i (size m)
 
+-- the place of its record, or code 1 (2.15, 11.1)
+abbrev pub index_in : Module → ℕ → Answered ℕ
+index_in m i = cond (knows m i) (Ok i) (Err UnknownVcpu)
+
 -- the vCPU number before all else (11.1, 11.12)
 unfoldable pub verdict : Module → Event → Verdict
 verdict m e = need (knows m e.vcpu) UnknownVcpu (vcpu_verdict e.vcpu m.registrations (vcpu_at m e.vcpu) e.act)
@@ -182,16 +187,16 @@ pub record Effect : Type 0 where
   pub page : Bytes
 
 -- a call, by what its numbers ask for; what was in flight is forgotten first (5.3, 7.19, 7.25)
-unfoldable pub call_effect : Request → ℕ → ℕ → Vcpu → Effect
-call_effect (request.Local o) i k v =
+unfoldable pub call_effect : Parsed → ℕ → ℕ → Vcpu → Effect
+call_effect (Ok (request.Local o)) i k v =
     record {
       reply = gives (done (serve o i k (forget v)).value);
       vcpu = (serve o i k (forget v)).vcpu;
       registrations = (serve o i k (forget v)).registrations;
       page = [];
     }
-call_effect (request.Icr x) i k v = record { reply = sends x; vcpu = with_icr x (forget v); registrations = k; page = [] }
-call_effect (request.Refused c) i k v = record { reply = gives (refused (code_of c)); vcpu = v; registrations = k; page = [] }
+call_effect (Ok (request.Icr x)) i k v = record { reply = sends x; vcpu = with_icr x (forget v); registrations = k; page = [] }
+call_effect (Err c) i k v = record { reply = gives (refused (code_of c)); vcpu = v; registrations = k; page = [] }
 
 -- ---- a list of ECX values: call 4 with each of them, one after the other
 -- call 4 with ECX c; RDX has no part in it (5.6, 5.15, 5.27)
@@ -291,10 +296,6 @@ abbrev pub next : Module → Event → Module
 next m e = (step m e).after
 
 -- ---- the question
-abbrev pub is_some : Option Item → Bool
-is_some none = false
-is_some (some y) = true
-
 -- would an entry of the vCPU i, with IF and without shadow and NMI-blocked, present anything? It is asked of the entry itself; one that is refused
 -- presents nothing (8.21 to 8.23)
 unfoldable pub would_present : Module → ℕ → Bool
@@ -309,18 +310,18 @@ unfoldable pub do_start : ℕ → ℕ → Out
 do_start n l = record { result = start_result n l; after = start n l; page = [] }
 
 -- ---- what the functions answer, in these terms
-abbrev pub out_of : Stepped → Bytes → Out
-out_of r p = record { result = result_of r.outcome; after = r.after; page = p }
+abbrev pub out_of : Stepped ℕ → Bytes → Out
+out_of r p = record { result = result_of r.answer; after = r.after; page = p }
 
-abbrev pub noticed_out : Noticed → Bytes → Out
-noticed_out r p = record { result = admission_result r.admission; after = r.after; page = p }
+abbrev pub noticed_out : Stepped Counts → Bytes → Out
+noticed_out r p = record { result = admission_result r.answer; after = r.after; page = p }
 
-abbrev pub entered_out : Entered → Out
-entered_out r = record { result = presented_result r.presentation; after = r.after; page = [] }
+abbrev pub entered_out : Stepped Presentation → Out
+entered_out r = record { result = presented_result r.answer; after = r.after; page = [] }
 
 -- of the ECX values cs, with the second list q after it
-abbrev pub listed_out : Stepped → List ℕ → List ℕ → Out
-listed_out r cs q = record { result = list_result r.outcome (take (length cs) q); after = r.after; page = q }
+abbrev pub listed_out : Stepped ℕ → List ℕ → List ℕ → Out
+listed_out r cs q = record { result = list_result r.answer (take (length cs) q); after = r.after; page = q }
 
 -- ---- a list of events, played one after the other
 -- what each event of a list gives (12.3)

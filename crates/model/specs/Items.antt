@@ -1,7 +1,7 @@
 -- Items: the NMI, the machine check and the vectors. What is pending at a record is asked and changed by item (section 2).
 -- Assumes nothing.
 use Rattle.std.specs.Prelude.{Bool, true, false, not, ◌&&◌, ◌||◌, List, ℕ, ◌+◌, ◌<◌, ◌≤◌, eqb}
-use Rattle.std.proofs.Math.Option.{Option, none, some}
+use Rattle.std.specs.Prelude.{Option, None, Some}
 use Rattle.model.specs.declared.InFlight.{InFlight}
 use Rattle.model.specs.declared.InFlight.TheVariants as flight
 use Rattle.model.specs.declared.Item.{Item}
@@ -50,8 +50,8 @@ same_item x (Vector y) = is_vector_item y x
 
 -- x is the item that there may be
 abbrev pub is_item : Item → Option Item → Bool
-is_item x none = false
-is_item x (some y) = same_item x y
+is_item x None = false
+is_item x (Some y) = same_item x y
 
 -- the member of an allowed set that stands for an item (2.4)
 abbrev pub member_of : Item → ℕ
@@ -66,10 +66,10 @@ item_count f = one (f Nmi) + one (f MachineCheck) + count (collect (λ v. f (Vec
 -- ---- in flight
 -- the item in flight, if one is (2.11)
 abbrev pub item_in_flight : InFlight → Option Item
-item_in_flight flight.Nothing = none
-item_in_flight flight.Nmi = some Nmi
-item_in_flight flight.MachineCheck = some MachineCheck
-item_in_flight (flight.Vector v) = some (Vector v)
+item_in_flight flight.Nothing = None
+item_in_flight flight.Nmi = Some Nmi
+item_in_flight flight.MachineCheck = Some MachineCheck
+item_in_flight (flight.Vector v) = Some (Vector v)
 
 -- an item that is in flight (8.14)
 abbrev pub flight_of : Item → InFlight

@@ -1,7 +1,7 @@
 -- Where the vector that an event moves ends, what a write stores and a read gives, and what is left of a page (13.119 to 13.125). Of every module value.
 -- Assumes nothing.
 use Rattle.std.specs.Prelude.{◌≡◌, Bool, true, false, cond, ◌&&◌, ◌||◌, ℕ, ◌+◌, ◌*◌, ◌/◌, ◌<◌, ◌≤◌, eqb, length, get_or}
-use Rattle.std.proofs.Math.Option.{none, some}
+use Rattle.std.specs.Prelude.{None, Some}
 use Rattle.model.specs.declared.InFlight.TheVariants as flight
 use Rattle.model.specs.declared.Item.TheVariants.{Vector}
 use Rattle.model.specs.declared.Vcpu.{Vcpu}
@@ -46,11 +46,11 @@ pub record Moves : Type 0 where
   pub returned : (m : Module) (i r x : ℕ) → x < 256 → (vcpu_at m i).flight ≡ flight.Vector x → (step m (at i non_delivery)).result ≡ done r
       → Requeued x (vcpu_at m i) (vcpu_at (next m (at i non_delivery)) i)
   -- an EOI: with x the highest in service, and with nothing there (13.120)
-  pub ended : (m : Module) (i r x : ℕ) → x < 256 → highest (vcpu_at m i).isr ≡ some x → (step m (at i (call 3 0x80B 0))).result ≡ done r
+  pub ended : (m : Module) (i r x : ℕ) → x < 256 → highest (vcpu_at m i).isr ≡ Some x → (step m (at i (call 3 0x80B 0))).result ≡ done r
       → (has (vcpu_at (next m (at i (call 3 0x80B 0))) i).isr x ≡ false)
       × (has (vcpu_at (next m (at i (call 3 0x80B 0))) i).isr_level x ≡ false)
       × (r ≡ cond (has (vcpu_at m i).isr_level x) x 0)
-  pub ended_none : (m : Module) (i r : ℕ) → highest (vcpu_at m i).isr ≡ none → (step m (at i (call 3 0x80B 0))).result ≡ done r → r ≡ 0
+  pub ended_none : (m : Module) (i r : ℕ) → highest (vcpu_at m i).isr ≡ None → (step m (at i (call 3 0x80B 0))).result ≡ done r → r ≡ 0
   -- a hand-back empties every set (13.121)
   pub handed_back : (m : Module) (i r : ℕ) (p : Bytes) (iF sh : Bool) (f : Field) (x : ℕ) → x < 256 → (step m (at i (hand_back p iF sh))).result ≡ done r
       → has (set_in f (vcpu_at (next m (at i (hand_back p iF sh))) i)) x ≡ false

@@ -1,9 +1,9 @@
 -- The register kinds, the registers' values and the EOI (section 6).
 -- Assumes nothing.
 use Rattle.std.specs.Prelude.{Bool, cond, ◌&&◌, ◌||◌, ℕ, ◌+◌, ◌*◌, ◌-◌, ◌/◌, ◌%◌, ◌^◌, leb, eqb, List}
-use Rattle.std.proofs.Math.Option.{Option, none, some, get_or}
+use Rattle.std.specs.Prelude.{Option, None, Some, unwrap_or}
 use Rattle.model.specs.declared.Kind.{Kind}
-use Rattle.model.specs.declared.Kind.TheVariants.{None, Read, Write, Both}
+use Rattle.model.specs.declared.Kind.TheVariants as kind
 use Rattle.model.specs.declared.Vcpu.{Vcpu}
 use Rattle.model.specs.State.{with_isr, with_isr_level}
 use Rattle.vector_set.specs.Sets.{has, union, remove, highest, word_of}
@@ -26,7 +26,7 @@ is_both r = eqb r 0x808 || eqb r 0x830
 
 -- a register that is not listed has no kind, in the table or outside it (6.1, 6.2, 6.13)
 unfoldable pub kind_of : ℕ → Kind
-kind_of r = cond (is_read r) Read (cond (is_write r) Write (cond (is_both r) Both None))
+kind_of r = cond (is_read r) kind.Read (cond (is_write r) kind.Write (cond (is_both r) kind.Both kind.None))
 
 -- ---- the values
 -- the class of a vector (1.13)
@@ -39,7 +39,7 @@ ppr_of tpr s = cond (leb (class s) (class tpr)) tpr (16 * class s)
 
 -- PPR of a record (6.17, 6.19)
 unfoldable pub ppr : Vcpu → ℕ
-ppr v = ppr_of v.tpr (get_or (highest v.isr) 0)
+ppr v = ppr_of v.tpr (unwrap_or (highest v.isr) 0)
 
 -- LDR of the vCPU i (6.16)
 unfoldable pub ldr : ℕ → ℕ
@@ -64,8 +64,8 @@ register_value i v r =
 -- ---- EOI
 -- the record once the highest vector in service, if there is one, is in service no more (6.25, 6.28)
 unfoldable pub ended_at : Option ℕ → Vcpu → Vcpu
-ended_at none v = v
-ended_at (some x) v = with_isr_level (remove x v.isr_level) (with_isr (remove x v.isr) v)
+ended_at None v = v
+ended_at (Some x) v = with_isr_level (remove x v.isr_level) (with_isr (remove x v.isr) v)
 
 -- the record after an EOI (6.25)
 unfoldable pub ended : Vcpu → Vcpu
@@ -73,8 +73,8 @@ ended v = ended_at (highest v.isr) v
 
 -- the vector whose EOI the host is owed, or 0 (6.26 to 6.28)
 unfoldable pub ended_level_at : Option ℕ → List ℕ → ℕ
-ended_level_at none level = 0
-ended_level_at (some x) level = cond (has level x) x 0
+ended_level_at None level = 0
+ended_level_at (Some x) level = cond (has level x) x 0
 
 -- the number that an EOI gives (6.26, 6.29)
 unfoldable pub ended_level : Vcpu → ℕ

@@ -1,6 +1,6 @@
 -- What is claimed of the summary of P, of an entry that looks by it, and of the question (13.76 to 13.86).
 -- Assumes nothing.
-use Rattle.std.specs.Prelude.{◌≡◌, Bool, true, false, cond, List, [], ℕ, ◌/◌, ◌^◌, ◌<◌, ◌≤◌}
+use Rattle.std.specs.Prelude.{◌≡◌, Bool, true, false, cond, List, [], ℕ, ◌/◌, ◌^◌, ◌<◌, ◌≤◌, is_some}
 use Rattle.model.specs.declared.InFlight.{InFlight}
 use Rattle.model.specs.declared.InFlight.TheVariants.{Nothing}
 use Rattle.model.specs.declared.Vcpu.{Vcpu}
@@ -8,7 +8,7 @@ use Rattle.model.specs.declared.Module.{Module}
 use Rattle.model.specs.State.{is_active, size, vcpu_at, start, with_irr, with_flight}
 use Rattle.model.specs.Codes.{Answer, nothing, answers, refused, presented_in}
 use Rattle.model.specs.Items.{put_irr}
-use Rattle.model.specs.Events.{entry, at, Event, offer_with, offer, step, next, final, is_some, would_present}
+use Rattle.model.specs.Events.{entry, at, Event, offer_with, offer, step, next, final, would_present}
 use Rattle.model.specs.Reached.{Summarised}
 use Rattle.vector_set.specs.Bits.{bit_at}
 use Rattle.vector_set.specs.Sets.{Words, has, highest}

@@ -1,7 +1,7 @@
 -- What an event may change, as one table by acts, guest calls and fields; and that it changes nothing else (13.108 to 13.110).
 -- Assumes nothing.
 use Rattle.std.specs.Prelude.{◌≡◌, Bool, true, false, cond, ◌||◌, List, [], ◌∷◌, ℕ, ◌+◌, ◌*◌, ◌%◌, ◌^◌, ◌<◌, eqb}
-use Rattle.std.proofs.Math.Option.{Option, none, some}
+use Rattle.std.specs.Prelude.{Option, None, Some}
 use Rattle.model.specs.declared.Item.{Item}
 use Rattle.model.specs.declared.Item.TheVariants.{Nmi, MachineCheck, Vector}
 use Rattle.model.specs.declared.Vcpu.{Vcpu}
@@ -104,8 +104,8 @@ untouched = only [] no_vector
 
 -- the vector x is the one that there may be
 abbrev pub is_that : ℕ → Option ℕ → Bool
-is_that x none = false
-is_that x (some y) = eqb x y
+is_that x None = false
+is_that x (Some y) = eqb x y
 
 -- what says that an item is pending (2.5, 2.8, 2.16)
 abbrev pub pending_fields : Item → List Field
@@ -115,10 +115,10 @@ pending_fields (Vector v) = irr ∷ summary ∷ []
 
 -- what changes where an item is presented or returned; a vector moves between P and S, and between PL and SL (8.6, 8.11, 8.12, 8.15, 8.17, 9.3, 9.4, 9.9)
 abbrev pub moved_fields : Option Item → List Field
-moved_fields none = []
-moved_fields (some Nmi) = pending_fields Nmi
-moved_fields (some MachineCheck) = pending_fields MachineCheck
-moved_fields (some (Vector v)) = isr ∷ irr_level ∷ isr_level ∷ pending_fields (Vector v)
+moved_fields None = []
+moved_fields (Some Nmi) = pending_fields Nmi
+moved_fields (Some MachineCheck) = pending_fields MachineCheck
+moved_fields (Some (Vector v)) = isr ∷ irr_level ∷ isr_level ∷ pending_fields (Vector v)
 
 -- call 1 by ECX: 0 may make the vCPU leaving, 1 takes from the count too, 2 adds to it (5.8 to 5.11)
 unfoldable pub registration_touches : ℕ → Touched
@@ -134,7 +134,7 @@ icr_touches x =
       own = flight ∷ icr ∷ pending_fields (icr_item x);
       others = pending_fields (icr_item x);
       count = false;
-      vectors = λ y. is_item (Vector y) (some (icr_item x));
+      vectors = λ y. is_item (Vector y) (Some (icr_item x));
     }
 
 -- call 3 by the register, of a vCPU with the record v: EOI, self-IPI, TPR, ICR; no other is written (6.22, 6.25, 7.22, 7.23)
@@ -189,30 +189,30 @@ sample = with_flight (in_flight.Vector 0x41) (with_isr (0 ∷ 0 ∷ 2 ∷ 0 ∷ 
 -- a bit for each of A, P, S, PL, SL, the two marks, TPR, ICR, phase, in flight and the byte, in this order (13.108)
 unfoldable pub rows : List ℕ
 rows =
-    row_bits (act_touches 1 absent none (notice []))
-    ∷ row_bits (act_touches 1 absent none (call 0 0 0))
-    ∷ row_bits (act_touches 1 absent none (call 1 0 0))
-    ∷ row_bits (act_touches 1 absent none (call 1 1 0))
-    ∷ row_bits (act_touches 1 absent none (call 1 2 0))
-    ∷ row_bits (act_touches 1 absent none (call 1 3 0))
-    ∷ row_bits (act_touches 1 absent none (call 2 0x808 0))
-    ∷ row_bits (act_touches 1 sample none (call 3 0x80B 0))
-    ∷ row_bits (act_touches 1 absent none (call 3 0x83F 0x41))
-    ∷ row_bits (act_touches 1 absent none (call 3 0x808 0))
-    ∷ row_bits (act_touches 1 absent none (call 3 0x830 0x4041))
-    ∷ row_bits (act_touches 1 absent none (call 3 0x830 0x4400))
-    ∷ row_bits (act_touches 1 absent none (call 3 0x80A 0))
-    ∷ row_bits (act_touches 1 absent none (call 4 0x141 0))
-    ∷ row_bits (act_touches 1 absent none (call 5 0 0))
-    ∷ row_bits (act_touches 1 absent none (entry true false false))
-    ∷ row_bits (act_touches 1 absent (some Nmi) (entry true false false))
-    ∷ row_bits (act_touches 1 absent (some MachineCheck) (entry true false false))
-    ∷ row_bits (act_touches 1 absent (some (Vector 0x41)) (entry true false false))
-    ∷ row_bits (act_touches 1 (with_flight in_flight.Nmi absent) none non_delivery)
-    ∷ row_bits (act_touches 1 (with_flight in_flight.MachineCheck absent) none non_delivery)
-    ∷ row_bits (act_touches 1 sample none non_delivery)
-    ∷ row_bits (act_touches 1 absent none (hand_back [] true false))
-    ∷ row_bits (act_touches 1 absent none (allow (0x141 ∷ []) []))
+    row_bits (act_touches 1 absent None (notice []))
+    ∷ row_bits (act_touches 1 absent None (call 0 0 0))
+    ∷ row_bits (act_touches 1 absent None (call 1 0 0))
+    ∷ row_bits (act_touches 1 absent None (call 1 1 0))
+    ∷ row_bits (act_touches 1 absent None (call 1 2 0))
+    ∷ row_bits (act_touches 1 absent None (call 1 3 0))
+    ∷ row_bits (act_touches 1 absent None (call 2 0x808 0))
+    ∷ row_bits (act_touches 1 sample None (call 3 0x80B 0))
+    ∷ row_bits (act_touches 1 absent None (call 3 0x83F 0x41))
+    ∷ row_bits (act_touches 1 absent None (call 3 0x808 0))
+    ∷ row_bits (act_touches 1 absent None (call 3 0x830 0x4041))
+    ∷ row_bits (act_touches 1 absent None (call 3 0x830 0x4400))
+    ∷ row_bits (act_touches 1 absent None (call 3 0x80A 0))
+    ∷ row_bits (act_touches 1 absent None (call 4 0x141 0))
+    ∷ row_bits (act_touches 1 absent None (call 5 0 0))
+    ∷ row_bits (act_touches 1 absent None (entry true false false))
+    ∷ row_bits (act_touches 1 absent (Some Nmi) (entry true false false))
+    ∷ row_bits (act_touches 1 absent (Some MachineCheck) (entry true false false))
+    ∷ row_bits (act_touches 1 absent (Some (Vector 0x41)) (entry true false false))
+    ∷ row_bits (act_touches 1 (with_flight in_flight.Nmi absent) None non_delivery)
+    ∷ row_bits (act_touches 1 (with_flight in_flight.MachineCheck absent) None non_delivery)
+    ∷ row_bits (act_touches 1 sample None non_delivery)
+    ∷ row_bits (act_touches 1 absent None (hand_back [] true false))
+    ∷ row_bits (act_touches 1 absent None (allow (0x141 ∷ []) []))
     ∷ []
 
 -- ---- the claim, of every module value and event: what the table does not name is as before

@@ -1,6 +1,6 @@
 -- Worked cases of the machine check (14.59 to 14.69, 14.71), for what no claim says otherwise. L = 1, n = 2 and vCPU 0 unless said.
 -- Assumes nothing.
-use Rattle.std.specs.Prelude.{◌≡◌, Bool, true, false, not, ◌&&◌, List, [], ◌∷◌, ℕ, set}
+use Rattle.std.specs.Prelude.{Ok, ◌≡◌, Bool, true, false, not, ◌&&◌, List, [], ◌∷◌, ℕ, set}
 use Rattle.model.specs.declared.Phase.TheVariants.{Leaving}
 use Rattle.model.specs.declared.InFlight.{InFlight}
 use Rattle.model.specs.declared.InFlight.TheVariants as flight
@@ -173,8 +173,8 @@ checks =
     ∷ pends true true (singleton 0x41) (told record0 marked_page).after
     ∷ same_numbers (told record0 marked_page).page zeros
     -- what the functions' answers present
-    ∷ answers_by (is_shown item.Nmi) (presented_result presentation.Nmi)
-    ∷ answers_by (is_shown item.MachineCheck) (presented_result presentation.MachineCheck)
+    ∷ answers_by (is_shown item.Nmi) (presented_result (Ok presentation.Nmi))
+    ∷ answers_by (is_shown item.MachineCheck) (presented_result (Ok presentation.MachineCheck))
     ∷ []
 
 -- ---- all of them

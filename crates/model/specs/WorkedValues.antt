@@ -1,14 +1,13 @@
 -- Worked cases of a list of ECX values (14.73 to 14.79, 14.81). L = 1, n = 2 and vCPU 0 unless said.
 -- Assumes nothing.
-use Rattle.std.specs.Prelude.{◌≡◌, Bool, true, false, not, ◌&&◌, List, [], ◌∷◌, ℕ, length, take, replicate}
+use Rattle.std.specs.Prelude.{◌≡◌, Ok, Err, Bool, true, false, not, ◌&&◌, List, [], ◌∷◌, ℕ, length, take, replicate}
 use Rattle.model.specs.declared.Phase.TheVariants.{Leaving, Left}
 use Rattle.model.specs.declared.Refusal.{Refusal}
 use Rattle.model.specs.declared.Refusal.TheVariants.{BadList}
-use Rattle.model.specs.declared.Outcome.TheVariants as outcome
 use Rattle.model.specs.declared.Module.{Module}
 use Rattle.model.specs.declared.Stepped.{Stepped}
-use Rattle.model.specs.declared.Noticed.{Noticed}
-use Rattle.model.specs.declared.Entered.{Entered}
+use Rattle.model.specs.declared.Counts.{Counts}
+use Rattle.model.specs.declared.Presentation.{Presentation}
 use Rattle.vector_set.specs.Sets.{empty, insert}
 use Rattle.model.specs.State.{vcpu_at, with_allowed, with_phase}
 use Rattle.model.specs.Codes.{coded, result_of, admission_result, presented_result, list_result, accepted}
@@ -94,8 +93,8 @@ values =
     -- 14.81: no call has the number 5
     ∷ is_refused 0x80000002 (result_on fresh2 (at 0 (call 5 0x141 0)))
     -- what the functions' answers say (13.9), and what the claims take a list for (13.17, 12.33)
-    ∷ gives_codes 7 (1 ∷ []) (list_result (outcome.Done 7) (1 ∷ []))
-    ∷ is_refused 6 (list_result (outcome.Refused BadList) (1 ∷ []))
+    ∷ gives_codes 7 (1 ∷ []) (list_result (Ok 7) (1 ∷ []))
+    ∷ is_refused 6 (list_result (Err BadList) (1 ∷ []))
     ∷ (is_request (allow [] []) && not (is_call (allow [] [])))
     ∷ []
 
@@ -103,12 +102,12 @@ values =
 pub record WorkedValues : Type 0 where
   pub values : every values ≡ true
   -- what the answer to a list says, for every number, code and refusal (13.9)
-  pub told : (x : ℕ) (ks : List ℕ) → list_result (outcome.Done x) ks ≡ coded x ks
-  pub refuses : (c : Refusal) (ks : List ℕ) → list_result (outcome.Refused c) ks ≡ result_of (outcome.Refused c)
+  pub told : (x : ℕ) (ks : List ℕ) → list_result (Ok x) ks ≡ coded x ks
+  pub refuses : (c : Refusal) (ks : List ℕ) → list_result (Err c) ks ≡ result_of (Err c)
   -- and that a contract speaks of the very answer, of the very module and of the very page or second list after the event (13.7, 13.9)
-  pub listed : (r : Stepped) (cs q : List ℕ)
-      → ((listed_out r cs q).result ≡ list_result r.outcome (take (length cs) q)) × ((listed_out r cs q).after ≡ r.after) × ((listed_out r cs q).page ≡ q)
-  pub paged : (r : Stepped) (p : List ℕ) → ((out_of r p).result ≡ result_of r.outcome) × ((out_of r p).after ≡ r.after) × ((out_of r p).page ≡ p)
-  pub noticed : (r : Noticed) (p : List ℕ)
-      → ((noticed_out r p).result ≡ admission_result r.admission) × ((noticed_out r p).after ≡ r.after) × ((noticed_out r p).page ≡ p)
-  pub entered : (r : Entered) → ((entered_out r).result ≡ presented_result r.presentation) × ((entered_out r).after ≡ r.after)
+  pub listed : (r : Stepped ℕ) (cs q : List ℕ)
+      → ((listed_out r cs q).result ≡ list_result r.answer (take (length cs) q)) × ((listed_out r cs q).after ≡ r.after) × ((listed_out r cs q).page ≡ q)
+  pub paged : (r : Stepped ℕ) (p : List ℕ) → ((out_of r p).result ≡ result_of r.answer) × ((out_of r p).after ≡ r.after) × ((out_of r p).page ≡ p)
+  pub noticed : (r : Stepped Counts) (p : List ℕ)
+      → ((noticed_out r p).result ≡ admission_result r.answer) × ((noticed_out r p).after ≡ r.after) × ((noticed_out r p).page ≡ p)
+  pub entered : (r : Stepped Presentation) → ((entered_out r).result ≡ presented_result r.answer) × ((entered_out r).after ≡ r.after)

@@ -1,13 +1,15 @@
 // The state of the gate and what its events answer. What each event does is said in specs/; the crates above carry it out.
 #![tactic(auto)]
 
+ghost use Rattle.std.specs.Prelude.{◌≤◌};
+
 // The vectors that stand for the NMI and the machine check in an allowed set and in call 4 (2.4, 4.16, 4.40, 5.17).
 pub const NMI_VECTOR: u8 = 2;
 
 pub const MACHINE_CHECK_VECTOR: u8 = 18;
 
 // The phase of a vCPU.
-#[derive(Clone, Copy)]
+#[derive(Clone, Copy, PartialEq, Eq)]
 pub enum Phase {
     Active,
     Leaving,
@@ -15,6 +17,7 @@ pub enum Phase {
 }
 
 // What is in flight on a vCPU: presented by its latest entry and neither confirmed by a later call, entry or accepted value of a list nor returned.
+// Kept: an enum with the vector as data, and no Option<Item>: a form that is prescribed (docs/DECISIONS.md, Forms).
 #[derive(Clone, Copy)]
 pub enum InFlight {
     Nothing,
@@ -49,6 +52,14 @@ pub struct Vcpu {
     pub summary: u8,
 }
 
+// A guest VMPL: 1, 2 or 3 (1.2). A module that never started may hold any number.
+#[derive(Clone, Copy)]
+pub struct Vmpl {
+    pub level: u32,
+    pub ghost of_a_guest: { (1 ≤ level) × (level ≤ 3) },
+}
+
+// Kept: n beside an array of 32: memory is fixed, and records at n and above are part of the value (2.13).
 // The module for one guest VMPL. No event reads or writes the records at n and above.
 #[derive(Clone, Copy)]
 pub struct Module {
@@ -59,6 +70,7 @@ pub struct Module {
 }
 
 // How a register may be used.
+// Kept: no use at all is one of the four kinds that the constant table holds, a form that is prescribed (docs/DECISIONS.md, Forms).
 #[derive(Clone, Copy)]
 pub enum Kind {
     None,
@@ -110,29 +122,22 @@ pub enum Local {
     SelfIpi(u8),
 }
 
-// What the numbers of a guest call ask for.
+// What the numbers of a guest call ask for, where they are not refused.
 #[derive(Clone, Copy)]
 pub enum Request {
     Local(Local),
     Icr(u64),
-    Refused(Refusal),
 }
 
-// The answer of start, a guest call, a non-delivery, a hand-back or a list of ECX values.
+// What a notice counts: how many of its items are new, and how many were merged with what was pending.
 #[derive(Clone, Copy)]
-pub enum Outcome {
-    Done(u64),
-    Refused(Refusal),
+pub struct Counts {
+    pub new: u32,
+    pub merged: u32,
 }
 
-// The answer of a notice: how many of its items are new, and how many were merged with what was pending.
-#[derive(Clone, Copy)]
-pub enum Admission {
-    Items(u32, u32),
-    Refused(Refusal),
-}
-
-// The answer of an entry.
+// What an entry presents.
+// Kept: nothing is one of its five answers (8.4), and an Option beside the others would be asked for at every use.
 #[derive(Clone, Copy)]
 pub enum Presentation {
     Nothing,
@@ -140,24 +145,12 @@ pub enum Presentation {
     MachineCheck,
     Vector(u8),
     Window(u8),
-    Refused(Refusal),
 }
 
-// The answer of an event with the module after it.
+// The answer of an event, or why it is refused, with the module after it. The answer is the counts of a notice, the presentation of an entry, and the
+// number of start, a guest call, a non-delivery, a hand-back or a list of ECX values.
 #[derive(Clone, Copy)]
-pub struct Stepped {
-    pub outcome: Outcome,
-    pub after: Module,
-}
-
-#[derive(Clone, Copy)]
-pub struct Noticed {
-    pub admission: Admission,
-    pub after: Module,
-}
-
-#[derive(Clone, Copy)]
-pub struct Entered {
-    pub presentation: Presentation,
+pub struct Stepped<T> {
+    pub answer: Result<T, Refusal>,
     pub after: Module,
 }

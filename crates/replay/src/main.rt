@@ -1,131 +1,81 @@
 // Plays the trace on standard input on one module, in place, and prints a line for each event.
 #![tactic(auto)]
 
-mod descriptors;
-
-use console::input::next_event;
-use console::{
-    Answer, CHUNK_BYTES, Chunk, LINE_ROOM, LIST_ROOM, LineRoom, ListRoom, PAGE_ROOM, PageRoom,
-    blank_codes, first_values, front,
-};
-use descriptors::{Streams, advance, report};
 use gate_mut_allow::allow_in;
 use gate_mut_calls::call_in;
 use gate_mut_entries::{entry_in, non_delivery_in, would_present_in};
 use gate_mut_pages::{hand_back_in, notice_in};
-use model::Module;
-use trace::Event;
+use model::{Counts, Module, Presentation, Refusal};
+use player::{Play, Player};
 
-// Plays an event that has neither page nor lists. The rest changes nothing: what is no event, and what `play` keeps for itself.
-fn play_plain(module: &mut Module, event: Event) -> Answer {
-    match event {
-        Event::Start { n, vmpl } => {
-            let started = gate_start::start(n, vmpl);
-            *module = started.after;
-            Answer::Outcome(started.outcome)
-        }
-        Event::Call {
-            vcpu,
-            call,
-            ecx,
-            rdx,
-        } => Answer::Outcome(call_in(module, vcpu, call, ecx, rdx)),
-        Event::Entry {
-            vcpu,
-            iflag,
-            shadow,
-            blocked,
-        } => Answer::Presentation(entry_in(module, vcpu, iflag, shadow, blocked)),
-        Event::NonDelivery { vcpu } => Answer::Outcome(non_delivery_in(module, vcpu)),
-        Event::Ask { vcpu } => Answer::Asked(would_present_in(module, vcpu)),
-        _ => Answer::Nothing,
+// Holds the module and lends it to each event in turn.
+#[derive(Drop)]
+struct InPlace {
+    module: Module,
+}
+
+impl Play for InPlace {
+    fn start(&mut self, n: u32, vmpl: u32) -> Result<u64, Refusal> {
+        let started = gate_start::start(n, vmpl);
+        self.module = started.after;
+        started.answer
+    }
+
+    fn notice(&mut self, vcpu: u32, page: &mut [u8]) -> Result<Counts, Refusal> {
+        notice_in(&mut self.module, vcpu, page)
+    }
+
+    fn call(&mut self, vcpu: u32, call: u32, ecx: u32, rdx: u64) -> Result<u64, Refusal> {
+        call_in(&mut self.module, vcpu, call, ecx, rdx)
+    }
+
+    fn entry(
+        &mut self,
+        vcpu: u32,
+        iflag: bool,
+        shadow: bool,
+        blocked: bool,
+    ) -> Result<Presentation, Refusal> {
+        entry_in(&mut self.module, vcpu, iflag, shadow, blocked)
+    }
+
+    fn non_delivery(&mut self, vcpu: u32) -> Result<u64, Refusal> {
+        non_delivery_in(&mut self.module, vcpu)
+    }
+
+    fn hand_back(
+        &mut self,
+        vcpu: u32,
+        page: &mut [u8],
+        iflag: bool,
+        shadow: bool,
+    ) -> Result<u64, Refusal> {
+        hand_back_in(&mut self.module, vcpu, page, iflag, shadow)
+    }
+
+    fn allow(&mut self, vcpu: u32, values: &[u32], codes: &mut [u32]) -> Result<u64, Refusal> {
+        allow_in(&mut self.module, vcpu, values, codes)
+    }
+
+    fn would_present(&self, vcpu: u32) -> bool {
+        would_present_in(&self.module, vcpu)
+    }
+
+    fn module(&self) -> &Module {
+        &self.module
     }
 }
 
-// Plays one event on the module that is lent.
-fn play(
-    module: &mut Module,
-    page: &mut PageRoom,
-    values: &[u32],
-    codes: &mut ListRoom,
-    event: Event,
-) -> Answer {
-    match event {
-        Event::Notice { vcpu, length } => Answer::Admission(notice_in(
-            module,
-            vcpu,
-            front(page, length),
-        )),
-        Event::HandBack {
-            vcpu,
-            iflag,
-            shadow,
-            length,
-        } => Answer::Outcome(hand_back_in(module, vcpu, front(page, length), iflag, shadow)),
-        Event::Allow {
-            vcpu,
-            count,
-            length,
-            fill,
-        } => Answer::Outcome(allow_in(
-            module,
-            vcpu,
-            first_values(values, count),
-            blank_codes(codes, length, fill),
-        )),
-        _ => play_plain(module, event),
-    }
-}
-
-// Holds the module and lends it to each event in turn. A proved loop has to end, and nothing says that the input does: the
-// turns are counted down from a number that no input uses up.
-fn run(
-    streams: Streams,
-    first: Module,
-    chunk: &mut Chunk,
-    line: &mut LineRoom,
-    page: &mut PageRoom,
-    values: &mut ListRoom,
-    codes: &mut ListRoom,
-    out: &mut Chunk,
-) {
-    let mut module = first;
-    let mut session = console::begin();
-    let mut turns = u64::MAX;
-    while turns > 0 {
-        session = advance(streams, chunk, line, session);
-        let event = next_event(line, page, values, session);
-        let answer = play(&mut module, page, values, codes, event);
-        session = report(streams, out, page, codes, session, event, answer, module);
-        if !session.open {
+// A proved loop has to end, and nothing says that the input does: the turns are counted, up to a number that no input uses up.
+fn main(rt: HostRuntime) {
+    let first = gate_start::start(0, 0);
+    let mut played = InPlace {
+        module: first.after,
+    };
+    let mut player = Player::new(rt);
+    for _ in 0..u64::MAX {
+        if !player.turn(&mut played) {
             return;
         }
-        turns -= 1;
     }
-}
-
-fn main(rt: HostRuntime) {
-    let streams = Streams {
-        input: rt.stdin(),
-        output: rt.stdout(),
-        errors: rt.stderr(),
-    };
-    let mut chunk = [0u8; CHUNK_BYTES];
-    let mut line = [0u8; LINE_ROOM];
-    let mut page = [0u8; PAGE_ROOM];
-    let mut values = [0u32; LIST_ROOM];
-    let mut codes = [0u32; LIST_ROOM];
-    let mut out = [0u8; CHUNK_BYTES];
-    let first = gate_start::start(0, 0);
-    let module = first.after;
-    run(
-        streams,
-        module,
-        &mut chunk,
-        &mut line,
-        &mut page,
-        &mut values,
-        &mut codes,
-        &mut out,
-    );
 }

@@ -1,173 +1,84 @@
 // Plays the trace on standard input on one module by value: what `replay` does in place, and it prints the same.
 #![tactic(auto)]
 
-mod descriptors;
+use model::{Counts, Module, Presentation, Refusal, Stepped};
+use player::{Play, Player};
 
-use console::input::next_event;
-use console::{
-    Answer, CHUNK_BYTES, Chunk, LINE_ROOM, LIST_ROOM, LineRoom, ListRoom, PAGE_ROOM, PageRoom,
-    blank_codes, first_values, front,
-};
-use descriptors::{Streams, advance, report};
-use model::{Entered, Module, Noticed, Stepped};
-use trace::Event;
-
-// The module after an event, and the answer.
+// Holds the module and hands it to each event, which gives another.
 #[derive(Drop)]
-struct Played {
+struct ByValue {
     module: Module,
-    answer: Answer,
 }
 
-fn silent(m: Module) -> Played {
-    Played {
-        module: m,
-        answer: Answer::Nothing,
+impl ByValue {
+    // Takes the module that an event leaves, and gives its answer.
+    fn step<T>(&mut self, stepped: Stepped<T>) -> Result<T, Refusal> {
+        self.module = stepped.after;
+        stepped.answer
     }
 }
 
-fn stepped(s: Stepped) -> Played {
-    let module = s.after;
-    let outcome = s.outcome;
-    Played {
-        module,
-        answer: Answer::Outcome(outcome),
+// Each event by value stands in a method of its own, so that room for the module that it leaves is made for that event alone.
+impl Play for ByValue {
+    fn start(&mut self, n: u32, vmpl: u32) -> Result<u64, Refusal> {
+        self.step(gate_start::start(n, vmpl))
+    }
+
+    fn call(&mut self, vcpu: u32, call: u32, ecx: u32, rdx: u64) -> Result<u64, Refusal> {
+        self.step(gate_calls::call(self.module, vcpu, call, ecx, rdx))
+    }
+
+    fn entry(
+        &mut self,
+        vcpu: u32,
+        iflag: bool,
+        shadow: bool,
+        blocked: bool,
+    ) -> Result<Presentation, Refusal> {
+        self.step(gate_entries::entry(self.module, vcpu, iflag, shadow, blocked))
+    }
+
+    fn non_delivery(&mut self, vcpu: u32) -> Result<u64, Refusal> {
+        self.step(gate_entries::non_delivery(self.module, vcpu))
+    }
+
+    fn notice(&mut self, vcpu: u32, page: &mut [u8]) -> Result<Counts, Refusal> {
+        self.step(gate_pages::notice(self.module, vcpu, page))
+    }
+
+    fn hand_back(
+        &mut self,
+        vcpu: u32,
+        page: &mut [u8],
+        iflag: bool,
+        shadow: bool,
+    ) -> Result<u64, Refusal> {
+        self.step(gate_pages::hand_back(self.module, vcpu, page, iflag, shadow))
+    }
+
+    fn allow(&mut self, vcpu: u32, values: &[u32], codes: &mut [u32]) -> Result<u64, Refusal> {
+        self.step(gate_allow::allow(self.module, vcpu, values, codes))
+    }
+
+    fn would_present(&self, vcpu: u32) -> bool {
+        gate_entries::would_present(self.module, vcpu)
+    }
+
+    fn module(&self) -> &Module {
+        &self.module
     }
 }
 
-fn noticed(r: Noticed) -> Played {
-    let module = r.after;
-    let admission = r.admission;
-    Played {
-        module,
-        answer: Answer::Admission(admission),
-    }
-}
-
-fn entered(e: Entered) -> Played {
-    let module = e.after;
-    let presentation = e.presentation;
-    Played {
-        module,
-        answer: Answer::Presentation(presentation),
-    }
-}
-
-fn asked(m: Module, yes: bool) -> Played {
-    Played {
-        module: m,
-        answer: Answer::Asked(yes),
-    }
-}
-
-// Plays an event that has neither page nor lists. The rest changes nothing: what is no event, and what `play` keeps for itself.
-fn play_plain(module: Module, event: Event) -> Played {
-    match event {
-        Event::Start { n, vmpl } => stepped(gate_start::start(n, vmpl)),
-        Event::Call {
-            vcpu,
-            call,
-            ecx,
-            rdx,
-        } => stepped(gate_calls::call(module, vcpu, call, ecx, rdx)),
-        Event::Entry {
-            vcpu,
-            iflag,
-            shadow,
-            blocked,
-        } => entered(gate_entries::entry(module, vcpu, iflag, shadow, blocked)),
-        Event::NonDelivery { vcpu } => stepped(gate_entries::non_delivery(module, vcpu)),
-        Event::Ask { vcpu } => asked(module, gate_entries::would_present(module, vcpu)),
-        _ => silent(module),
-    }
-}
-
-// Plays one event on the module.
-fn play(
-    module: Module,
-    page: &mut [u8],
-    values: &[u32],
-    codes: &mut [u32],
-    event: Event,
-) -> Played {
-    match event {
-        Event::Notice { vcpu, length } => noticed(gate_pages::notice(
-            module,
-            vcpu,
-            front(page, length),
-        )),
-        Event::HandBack {
-            vcpu,
-            iflag,
-            shadow,
-            length,
-        } => stepped(gate_pages::hand_back(module, vcpu, front(page, length), iflag, shadow)),
-        Event::Allow {
-            vcpu,
-            count,
-            length,
-            fill,
-        } => stepped(gate_allow::allow(
-            module,
-            vcpu,
-            first_values(values, count),
-            blank_codes(codes, length, fill),
-        )),
-        _ => play_plain(module, event),
-    }
-}
-
-// A proved loop has to end, and nothing says that the input does: the turns are counted down from a number that no input
-// uses up.
-fn run(
-    streams: Streams,
-    first: Module,
-    chunk: &mut Chunk,
-    line: &mut LineRoom,
-    page: &mut PageRoom,
-    values: &mut ListRoom,
-    codes: &mut ListRoom,
-    out: &mut Chunk,
-) {
-    let mut module = first;
-    let mut session = console::begin();
-    let mut turns = u64::MAX;
-    while turns > 0 {
-        session = advance(streams, chunk, line, session);
-        let event = next_event(line, page, values, session);
-        let played = play(module, page, values, codes, event);
-        module = played.module;
-        let answer = played.answer;
-        session = report(streams, out, page, codes, session, event, answer, module);
-        if !session.open {
+// A proved loop has to end, and nothing says that the input does: the turns are counted, up to a number that no input uses up.
+fn main(rt: HostRuntime) {
+    let first = gate_start::start(0, 0);
+    let mut played = ByValue {
+        module: first.after,
+    };
+    let mut player = Player::new(rt);
+    for _ in 0..u64::MAX {
+        if !player.turn(&mut played) {
             return;
         }
-        turns -= 1;
     }
-}
-
-fn main(rt: HostRuntime) {
-    let streams = Streams {
-        input: rt.stdin(),
-        output: rt.stdout(),
-        errors: rt.stderr(),
-    };
-    let mut chunk = [0u8; CHUNK_BYTES];
-    let mut line = [0u8; LINE_ROOM];
-    let mut page = [0u8; PAGE_ROOM];
-    let mut values = [0u32; LIST_ROOM];
-    let mut codes = [0u32; LIST_ROOM];
-    let mut out = [0u8; CHUNK_BYTES];
-    let first = gate_start::start(0, 0);
-    let module = first.after;
-    run(
-        streams,
-        module,
-        &mut chunk,
-        &mut line,
-        &mut page,
-        &mut values,
-        &mut codes,
-        &mut out,
-    );
 }

@@ -19,6 +19,7 @@ const FIRST: u32 = 0x800;
 
 const LAST: u32 = 0x8FF;
 
+// Kept: a constant table of the 256 kinds, a form that is prescribed (6.1, 6.30; docs/DECISIONS.md, Forms).
 // One kind for each register from the first to the last (6.1, 6.3 to 6.13).
 const KINDS: [Kind; 256] = [
     N, // 0x800

@@ -4,8 +4,7 @@ use mathlib.Core.Path.{◌≡◌, refl, sym, ap, ◌∙◌}
 use mathlib.Core.List.{List, [], ◌∷◌, map}
 use Prim.Native.Nat.{ℕ}
 use lib.ListN.{take}
-use Rattle.trace.specs.declared.Number.{Number}
-use Rattle.trace.specs.declared.Number.TheVariants.{Value, Invalid}
+use Rattle.std.specs.Prelude.{Option, Some, None}
 use Rattle.trace.specs.Numbers.{digit, digits_from, digits_of, is_hex, number_of, up_to}
 use Rattle.trace.specs.Words.{spaces, ending, words_after, words, rest, same, first}
 use Rattle.trace.specs.Lists.{is_value, are_values, count_of}
@@ -15,11 +14,11 @@ use Rattle.trace.specs.Lines.{is_comment, event_of}
 use Rattle.trace.specs.WorkedLines.{WorkedLines}
 
 -- a list of numbers is known by its values
-abbrev value_in : Number → ℕ
-value_in (Value v) = v
-value_in Invalid = 0
+abbrev value_in : Option ℕ → ℕ
+value_in (Some v) = v
+value_in None = 0
 
-values_in : (vs : List ℕ) → map value_in (map Value vs) ≡ vs
+values_in : (vs : List ℕ) → map value_in (map Some vs) ≡ vs
 values_in [] = refl
 values_in (v ∷ vs) = ap (λ us. v ∷ us) (values_in vs)
 

@@ -7,20 +7,26 @@ use Prim.Native.Nat.{ℕ, zero, suc, ◌+◌, ◌*◌, ◌/◌, ◌%◌, ◌^◌
 use native.Mathlib.Nat.{pow-succ', mul_left_comm}
 use native.Mathlib.Omega.{arith}
 use lib.Dec.{ltb}
+use Rattle.std.proofs.lemmas.Bool.Decides.{nat_tests}
 use borrow.Author.Tests.{lt-ltb, ltb-true, ltb-false}
 use Rattle.io.specs.Digits.{hex_digit_ascii, last_digits}
-use Rattle.trace.specs.declared.Number.TheVariants.{Value}
+use Rattle.std.specs.Prelude.{Some}
 use Rattle.trace.specs.Numbers.{digit, digits_from, digits_of, is_hex, number_of}
-use Rattle.trace.proofs.Digits.{digit_decimal, digit_lower}
 
-digit_glyph : (d : ℕ) → d < 16 → digit (hex_digit_ascii d) ≡ d
+decimal_glyph : (d : ℕ) → d < 10 → digit (48 + d) ≡ Some d
+unfolding digit
+decimal_glyph d h = grind (arith, nat_tests)
+
+letter_glyph : (d : ℕ) → 10 ≤ d → d < 16 → digit (87 + d) ≡ Some d
+unfolding digit
+letter_glyph d l h = grind (arith, nat_tests)
+
+digit_glyph : (d : ℕ) → d < 16 → digit (hex_digit_ascii d) ≡ Some d
 digit_glyph d h = go (ltb d 10) refl
   where
-    go : (t : Bool) → ltb d 10 ≡ t → digit (cond t (48 + d) (87 + d)) ≡ d
-    go true e =
-        let l : d < 10 = ltb-true d 10 e in sym (digit_decimal (48 + d) (omega arith) (omega arith)) ∙ omega arith
-    go false e =
-        let l : 10 ≤ d = ltb-false d 10 e in sym (digit_lower (87 + d) (omega arith) (omega arith)) ∙ omega arith
+    go : (t : Bool) → ltb d 10 ≡ t → digit (cond t (48 + d) (87 + d)) ≡ Some d
+    go true e = decimal_glyph d (ltb-true d 10 e)
+    go false e = letter_glyph d (ltb-false d 10 e) h
 
 times : (v k : ℕ) → v * 16 ^ suc k ≡ 16 * (v * 16 ^ k)
 times v k = rw pow-succ' (mul_left_comm v 16 (16 ^ k))
@@ -41,7 +47,7 @@ unfolding digits_of
 some_digit [] b = refl
 some_digit (x ∷ s) b = refl
 
-pub reads_back : (k n : ℕ) → n < 16 ^ suc k → n < 2 ^ 64 → number_of (48 ∷ 120 ∷ last_digits 16 (suc k) n) ≡ Value n
+pub reads_back : (k n : ℕ) → n < 16 ^ suc k → n < 2 ^ 64 → number_of (48 ∷ 120 ∷ last_digits 16 (suc k) n) ≡ Some n
 unfolding number_of is_hex digits_from
 reads_back k n h f =
     let e : 0 * 16 ^ suc k + n ≡ n = omega arith in

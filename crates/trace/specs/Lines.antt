@@ -1,16 +1,13 @@
 -- A line of a trace: the event that it is, and the page or the list that it tells.
 -- Assumes nothing.
-use Rattle.std.specs.Prelude.{◌≡◌, Bool, true, false, cond, List, [], ◌∷◌, ℕ, suc, ◌≤◌, ◌<◌, eqb, ltb, length, get_or, drop}
-use Rattle.trace.specs.declared.Number.{Number}
-use Rattle.trace.specs.declared.Number.TheVariants.{Value, Invalid}
-use Rattle.trace.specs.declared.Arguments.{Arguments}
+use Rattle.std.specs.Prelude.{◌≡◌, Bool, cond, List, [], ◌∷◌, ℕ, ◌≤◌, eqb, ltb, length, get_or, drop, Option, Some, None}
 use Rattle.trace.specs.declared.Name.{Name}
 use Rattle.trace.specs.declared.Name.TheVariants as name
 use Rattle.trace.specs.declared.Event.{Event}
 use Rattle.trace.specs.declared.Event.TheVariants.{Nothing, Unreadable, Start, Notice, Call, Entry, NonDelivery, HandBack, Allow, Ask, State}
 use Rattle.trace.specs.Numbers.{max32}
 use Rattle.trace.specs.Words.{ascii, words, first, rest, same}
-use Rattle.trace.specs.Pages.{Bytes, told, garbled, fill, zeros}
+use Rattle.trace.specs.Pages.{fill, zeros}
 use Rattle.trace.specs.Lists.{max_list, count_of, Holds}
 
 -- ---- arguments
@@ -32,28 +29,15 @@ abbrev pub Made : List ℕ → Type 0
 Made [] = List (List ℕ) → Event
 Made (m ∷ ms) = ℕ → Made ms
 
-unfoldable pub given : Number → (ℕ → Event) → Event
-given (Value v) f = f v
-given Invalid f = Unreadable
+-- the event of a value, where there is one
+unfoldable pub given : {T : Type 0} → Option T → (T → Event) → Event
+given (Some v) f = f v
+given None f = Unreadable
 
 -- the event of a line whose first words are numbers up to the limits
 unfoldable pub taking : (limits : List ℕ) → List (List ℕ) → Made limits → Event
 taking [] ws f = f ws
 taking (m ∷ ms) ws f = given (first m ws) λ v. taking ms (rest ws) (f v)
-
--- the event of the values from place k on
-unfoldable pub applied : (limits : List ℕ) → ℕ → List ℕ → Made limits → List (List ℕ) → Event
-applied [] k vs f ws = f ws
-applied (m ∷ ms) k vs f ws = applied ms (suc k) vs (f (get_or vs k 0)) ws
-
--- what reading arguments from the text, which is the end of the line s, gives: whether they are numbers up to the limits; if so the
--- numbers, and a place from which on the other words stand
-pub record Taken (limits text s : List ℕ) (a : Arguments) : Type 0 where
-  pub next : a.next ≤ length s
-  pub unmade : a.valid ≡ false → (f : Made limits) → taking limits (words text) f ≡ Unreadable
-  pub made : a.valid ≡ true → (f : Made limits) → taking limits (words text) f ≡ applied limits 0 a.values f (words (drop a.next s))
-  pub small : a.valid ≡ true → (k : ℕ) → k < length limits → get_or a.values k 0 ≤ get_or limits k 0
-  pub rests : a.valid ≡ true → words (drop a.next s) ≡ drop (length limits) (words text)
 
 -- ---- what follows the name of an event
 -- no word follows
@@ -62,9 +46,9 @@ only [] e = e
 only (w ∷ ws) e = Unreadable
 
 -- the words that follow are bytes of the page
-unfoldable pub paged : Bytes → Event → Event
-paged (told p) e = e
-paged garbled e = Unreadable
+unfoldable pub paged : Option (List ℕ) → Event → Event
+paged (Some p) e = e
+paged None e = Unreadable
 
 -- `start N L`
 unfoldable pub start : List (List ℕ) → Event
@@ -113,11 +97,11 @@ names =
     ∷ (ascii "state", name.State)
     ∷ []
 
-unfoldable pub name_in : List (List ℕ × Name) → List ℕ → Name
-name_in [] w = name.Unknown
-name_in (n ∷ ns) w = cond (same w n.0) n.1 (name_in ns w)
+unfoldable pub name_in : List (List ℕ × Name) → List ℕ → Option Name
+name_in [] w = None
+name_in (n ∷ ns) w = cond (same w n.0) (Some n.1) (name_in ns w)
 
-abbrev pub name_of : List ℕ → Name
+abbrev pub name_of : List ℕ → Option Name
 name_of w = name_in names w
 
 unfoldable pub named : Name → List (List ℕ) → Event
@@ -130,12 +114,11 @@ named name.HandBack ws = hand_back ws
 named name.Allow ws = allow ws
 named name.Ask ws = ask ws
 named name.State ws = only ws State
-named name.Unknown ws = Unreadable
 
--- a line without words is passed over
+-- a line without words is passed over; one whose first word is no name is unreadable
 unfoldable pub spoken : List (List ℕ) → Event
 spoken [] = Nothing
-spoken (w ∷ ws) = named (name_of w) ws
+spoken (w ∷ ws) = given (name_of w) λ n. named n ws
 
 -- the line begins with `#`
 unfoldable pub is_comment : List ℕ → Bool
@@ -153,11 +136,11 @@ abbrev pub PageIs : List (List ℕ) → Event → List ℕ → Type 0
 PageIs ws Nothing p = Unit
 PageIs ws Unreadable p = Unit
 PageIs ws (Start n l) p = Unit
-PageIs ws (Notice i long) p = (long ≤ 4096) × (fill long (drop 2 ws) zeros ≡ told p)
+PageIs ws (Notice i long) p = (long ≤ 4096) × (fill long (drop 2 ws) zeros ≡ Some p)
 PageIs ws (Call i c ecx rdx) p = Unit
 PageIs ws (Entry i f s b) p = Unit
 PageIs ws (NonDelivery i) p = Unit
-PageIs ws (HandBack i f s long) p = (long ≤ 4096) × (fill long (drop 4 ws) zeros ≡ told p)
+PageIs ws (HandBack i f s long) p = (long ≤ 4096) × (fill long (drop 4 ws) zeros ≡ Some p)
 PageIs ws (Allow i n long x) p = Unit
 PageIs ws (Ask i) p = Unit
 PageIs ws State p = Unit

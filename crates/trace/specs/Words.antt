@@ -1,11 +1,8 @@
 -- The words of a line: what stands between spaces.
 -- Assumes nothing.
-use Rattle.std.specs.Prelude.{◌≡◌, Bool, true, false, cond, ◌&&◌, List, [], ◌∷◌, ◌++◌, ℕ, suc, ◌≤◌, eqb, length, drop}
+use Rattle.std.specs.Prelude.{Bool, true, false, cond, ◌&&◌, List, [], ◌∷◌, ◌++◌, ℕ, suc, eqb, Option, None}
 use Prim.Native.Char.{code}
 use Prim.Native.String.{String, [] as []ˢ, ◌∷◌ as ◌∷ˢ◌}
-use Rattle.trace.specs.declared.Number.{Number}
-use Rattle.trace.specs.declared.Number.TheVariants.{Invalid}
-use Rattle.trace.specs.declared.Argument.{Argument}
 use Rattle.trace.specs.Numbers.{number_of, up_to}
 
 -- the bytes of a text of ASCII characters
@@ -45,12 +42,6 @@ same (x ∷ a) [] = false
 same (x ∷ a) (y ∷ b) = eqb x y && same a b
 
 -- the first word as a number of at most `most`
-unfoldable pub first : ℕ → List (List ℕ) → Number
-first most [] = Invalid
+unfoldable pub first : ℕ → List (List ℕ) → Option ℕ
+first most [] = None
 first most (w ∷ ws) = up_to most (number_of w)
-
--- what reading the next word of the text, which is the end of the line s, gives: the number, and a place from which on the other words stand
-pub record Read (most : ℕ) (text s : List ℕ) (a : Argument) : Type 0 where
-  pub number : a.number ≡ first most (words text)
-  pub next : a.next ≤ length s
-  pub rests : words (drop a.next s) ≡ rest (words text)

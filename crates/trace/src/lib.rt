@@ -7,10 +7,14 @@ mod pages;
 pub mod scan;
 mod words;
 
-ghost use Rattle.std.specs.Prelude.{◌≡◌, ◌≤◌, length, drop};
+ghost use Rattle.std.specs.Prelude.{◌≡◌};
+ghost use Rattle.std.specs.Option.{unwrap_or};
 ghost use Rattle.trace.specs.Words.{words, rest};
 ghost use Rattle.trace.specs.Lines.{only, start, notice, call, entry, non_delivery, hand_back, allow, ask};
 ghost use Rattle.trace.specs.Lines.{name_of, named, is_comment, event_of, PageIs, ValuesAre};
+ghost use Rattle.trace.specs.declared.Event.TheVariants.{Unreadable};
+
+use crate::words::Line;
 
 // The limits of arguments: a number of 32 bits or of 64, a flag, the length of a page, that of a list.
 const MAX32: u64 = 0xFFFF_FFFF;
@@ -27,6 +31,7 @@ const MAX_LIST: u64 = 1024;
 pub const LONGEST: usize = 65536;
 
 // What a line says. `Nothing` is a line that is passed over. The bytes of a page and the values of a list stand beside it.
+// Kept: a line that is passed over and one that is unreadable are two of the kinds that `read` promises.
 #[derive(Clone, Copy)]
 pub enum Event {
     Nothing,
@@ -84,272 +89,189 @@ enum Name {
     Allow,
     Ask,
     State,
-    Unknown,
 }
 
-#[derive(Drop)]
-enum Number {
-    Value(u64),
-    Invalid,
-}
+// ---- events: each function reads what follows the name; there is none where the line is unreadable
 
-// A word of a line as a number, with the place after the word.
-#[derive(Drop)]
-struct Argument {
-    number: Number,
-    next: usize,
-}
-
-// The next words of a line as numbers, with the place after them. `valid`: each of them is a number up to its limit.
-#[derive(Drop)]
-struct Arguments {
-    values: [u64; 4],
-    valid: bool,
-    next: usize,
-}
-
-// One byte of a page.
-#[derive(Drop)]
-enum Cell {
-    Byte { offset: usize, value: u8 },
-    Malformed,
-}
-
-// ---- events: each function reads what follows the name
-
-// The event e, where no word follows it.
-fn ended(s: &[u8], at: usize, e: Event) -> Event
-    requires { at ≤ length s.now }
-    ensures { result ≡ only (words (drop at s.now)) e }
+// The event e, where no word is left.
+#[tactic(auto, unfolding(crate::specs::Lines::only))]
+fn ended(mut line: Line, e: Event) -> Option<Event>
+    ensures { unwrap_or result Unreadable ≡ only (words line.entry.left.now) e }
 {
-    if words::past_spaces(s, at) < s.len() {
-        Event::Unreadable
-    } else {
-        e
+    match line.next() {
+        Some(_) => None,
+        None => Some(e),
     }
 }
 
 // `start N L`
-fn read_start(s: &[u8], at: usize) -> Event
-    requires { at ≤ length s.now }
-    ensures { result ≡ start (words (drop at s.now)) }
+#[tactic(auto, unfolding(crate::specs::Lines::start, crate::specs::Lines::taking, crate::specs::Lines::given))]
+fn read_start(mut line: Line) -> Option<Event>
+    ensures { unwrap_or result Unreadable ≡ start (words line.entry.left.now) }
 {
-    let a = numbers::arguments_at(s, at, &[MAX32, MAX32]);
-    if a.valid {
-        let e = Event::Start {
-            n: a.values[0] as u32,
-            vmpl: a.values[1] as u32,
-        };
-        ended(s, a.next, e)
-    } else {
-        Event::Unreadable
-    }
+    let n = line.number32()?;
+    let vmpl = line.number32()?;
+    ended(line, Event::Start { n, vmpl })
 }
 
 // `notice VCPU LENGTH [OFFSET=BYTE ...]`
-fn read_notice(s: &[u8], at: usize, page: &mut [u8; 4096]) -> Event
-    requires { at ≤ length s.now }
-    ensures value { result ≡ notice (words (drop at s.now)) }
-    ensures page_is { PageIs (words (drop at s.now)) result page.new }
+#[tactic(auto, unfolding(crate::specs::Lines::notice, crate::specs::Lines::taking, crate::specs::Lines::given, crate::specs::Lines::paged))]
+fn read_notice(mut line: Line, page: &mut [u8; 4096]) -> Option<Event>
+    ensures value { unwrap_or result Unreadable ≡ notice (words line.entry.left.now) }
+    ensures page_is { PageIs (words line.entry.left.now) (unwrap_or result Unreadable) page.new }
 {
-    let a = numbers::arguments_at(s, at, &[MAX32, MAX_LENGTH]);
-    if a.valid {
-        let length = a.values[1] as usize;
-        if pages::fill(s, a.next, length, page) {
-            Event::Notice {
-                vcpu: a.values[0] as u32,
-                length,
-            }
-        } else {
-            Event::Unreadable
-        }
-    } else {
-        Event::Unreadable
-    }
+    let vcpu = line.number32()?;
+    let length = line.number(MAX_LENGTH)? as usize;
+    pages::fill(line, length, page)?;
+    Some(Event::Notice { vcpu, length })
 }
 
 // `call VCPU CALL ECX RDX`
-fn read_call(s: &[u8], at: usize) -> Event
-    requires { at ≤ length s.now }
-    ensures { result ≡ call (words (drop at s.now)) }
+#[tactic(auto, unfolding(crate::specs::Lines::call, crate::specs::Lines::taking, crate::specs::Lines::given))]
+fn read_call(mut line: Line) -> Option<Event>
+    ensures { unwrap_or result Unreadable ≡ call (words line.entry.left.now) }
 {
-    let a = numbers::arguments_at(s, at, &[MAX32, MAX32, MAX32, MAX64]);
-    if a.valid {
-        let e = Event::Call {
-            vcpu: a.values[0] as u32,
-            call: a.values[1] as u32,
-            ecx: a.values[2] as u32,
-            rdx: a.values[3],
-        };
-        ended(s, a.next, e)
-    } else {
-        Event::Unreadable
-    }
+    let vcpu = line.number32()?;
+    let call = line.number32()?;
+    let ecx = line.number32()?;
+    let rdx = line.number(MAX64)?;
+    ended(
+        line,
+        Event::Call {
+            vcpu,
+            call,
+            ecx,
+            rdx,
+        },
+    )
 }
 
 // `entry VCPU IF SHADOW BLOCKED`
-fn read_entry(s: &[u8], at: usize) -> Event
-    requires { at ≤ length s.now }
-    ensures { result ≡ entry (words (drop at s.now)) }
+#[tactic(auto, unfolding(crate::specs::Lines::entry, crate::specs::Lines::taking, crate::specs::Lines::given))]
+fn read_entry(mut line: Line) -> Option<Event>
+    ensures { unwrap_or result Unreadable ≡ entry (words line.entry.left.now) }
 {
-    let a = numbers::arguments_at(s, at, &[MAX32, MAX_FLAG, MAX_FLAG, MAX_FLAG]);
-    if a.valid {
-        let e = Event::Entry {
-            vcpu: a.values[0] as u32,
-            iflag: a.values[1] == 1,
-            shadow: a.values[2] == 1,
-            blocked: a.values[3] == 1,
-        };
-        ended(s, a.next, e)
-    } else {
-        Event::Unreadable
-    }
+    let vcpu = line.number32()?;
+    let iflag = line.flag()?;
+    let shadow = line.flag()?;
+    let blocked = line.flag()?;
+    ended(
+        line,
+        Event::Entry {
+            vcpu,
+            iflag,
+            shadow,
+            blocked,
+        },
+    )
 }
 
 // `nondelivery VCPU`
-fn read_non_delivery(s: &[u8], at: usize) -> Event
-    requires { at ≤ length s.now }
-    ensures { result ≡ non_delivery (words (drop at s.now)) }
+// Kept: this and `read_ask` differ in the variant alone, two lines each; the variant as a parameter would be no shorter.
+#[tactic(auto, unfolding(crate::specs::Lines::non_delivery, crate::specs::Lines::taking, crate::specs::Lines::given))]
+fn read_non_delivery(mut line: Line) -> Option<Event>
+    ensures { unwrap_or result Unreadable ≡ non_delivery (words line.entry.left.now) }
 {
-    let a = numbers::arguments_at(s, at, &[MAX32]);
-    if a.valid {
-        let e = Event::NonDelivery {
-            vcpu: a.values[0] as u32,
-        };
-        ended(s, a.next, e)
-    } else {
-        Event::Unreadable
-    }
+    let vcpu = line.number32()?;
+    ended(line, Event::NonDelivery { vcpu })
 }
 
 // `handback VCPU IF SHADOW LENGTH [OFFSET=BYTE ...]`
-fn read_hand_back(s: &[u8], at: usize, page: &mut [u8; 4096]) -> Event
-    requires { at ≤ length s.now }
-    ensures value { result ≡ hand_back (words (drop at s.now)) }
-    ensures page_is { PageIs (words (drop at s.now)) result page.new }
+#[tactic(auto, unfolding(crate::specs::Lines::hand_back, crate::specs::Lines::taking, crate::specs::Lines::given, crate::specs::Lines::paged))]
+fn read_hand_back(mut line: Line, page: &mut [u8; 4096]) -> Option<Event>
+    ensures value { unwrap_or result Unreadable ≡ hand_back (words line.entry.left.now) }
+    ensures page_is { PageIs (words line.entry.left.now) (unwrap_or result Unreadable) page.new }
 {
-    let a = numbers::arguments_at(s, at, &[MAX32, MAX_FLAG, MAX_FLAG, MAX_LENGTH]);
-    if a.valid {
-        let length = a.values[3] as usize;
-        if pages::fill(s, a.next, length, page) {
-            Event::HandBack {
-                vcpu: a.values[0] as u32,
-                iflag: a.values[1] == 1,
-                shadow: a.values[2] == 1,
-                length,
-            }
-        } else {
-            Event::Unreadable
-        }
-    } else {
-        Event::Unreadable
-    }
+    let vcpu = line.number32()?;
+    let iflag = line.flag()?;
+    let shadow = line.flag()?;
+    let length = line.number(MAX_LENGTH)? as usize;
+    pages::fill(line, length, page)?;
+    Some(Event::HandBack {
+        vcpu,
+        iflag,
+        shadow,
+        length,
+    })
 }
 
 // `allow VCPU LENGTH FILL [ECX ...]`
-fn read_allow(s: &[u8], at: usize, values: &mut [u32; 1024]) -> Event
-    requires { at ≤ length s.now }
-    ensures value { result ≡ allow (words (drop at s.now)) }
-    ensures values_are { ValuesAre (words (drop at s.now)) result values.new }
+#[tactic(auto, unfolding(crate::specs::Lines::allow, crate::specs::Lines::taking, crate::specs::Lines::given))]
+fn read_allow(mut line: Line, values: &mut [u32; 1024]) -> Option<Event>
+    ensures value { unwrap_or result Unreadable ≡ allow (words line.entry.left.now) }
+    ensures values_are { ValuesAre (words line.entry.left.now) (unwrap_or result Unreadable) values.new }
 {
-    let a = numbers::arguments_at(s, at, &[MAX32, MAX_LIST, MAX32]);
-    if a.valid {
-        let Number::Value(count) = lists::fill(s, a.next, values) else {
-            return Event::Unreadable;
-        };
-        Event::Allow {
-            vcpu: a.values[0] as u32,
-            count: count as usize,
-            length: a.values[1] as usize,
-            fill: a.values[2] as u32,
-        }
-    } else {
-        Event::Unreadable
-    }
+    let vcpu = line.number32()?;
+    let length = line.number(MAX_LIST)? as usize;
+    let fill = line.number32()?;
+    let count = lists::fill(line, values)?;
+    Some(Event::Allow {
+        vcpu,
+        count,
+        length,
+        fill,
+    })
 }
 
 // `ask VCPU`
-fn read_ask(s: &[u8], at: usize) -> Event
-    requires { at ≤ length s.now }
-    ensures { result ≡ ask (words (drop at s.now)) }
+#[tactic(auto, unfolding(crate::specs::Lines::ask, crate::specs::Lines::taking, crate::specs::Lines::given))]
+fn read_ask(mut line: Line) -> Option<Event>
+    ensures { unwrap_or result Unreadable ≡ ask (words line.entry.left.now) }
 {
-    let a = numbers::arguments_at(s, at, &[MAX32]);
-    if a.valid {
-        let e = Event::Ask {
-            vcpu: a.values[0] as u32,
-        };
-        ended(s, a.next, e)
-    } else {
-        Event::Unreadable
-    }
+    let vcpu = line.number32()?;
+    ended(line, Event::Ask { vcpu })
 }
 
 // ---- lines
 
-fn name_of(word: &[u8]) -> Name
+#[tactic(auto, using(crate::proofs::Names::name_told))]
+fn name_of(word: &[u8]) -> Option<Name>
     ensures { result ≡ name_of word.now }
 {
-    if words::is(word, b"start") {
-        return Name::Start;
+    match word {
+        b"start" => Some(Name::Start),
+        b"notice" => Some(Name::Notice),
+        b"call" => Some(Name::Call),
+        b"entry" => Some(Name::Entry),
+        b"nondelivery" => Some(Name::NonDelivery),
+        b"handback" => Some(Name::HandBack),
+        b"allow" => Some(Name::Allow),
+        b"ask" => Some(Name::Ask),
+        b"state" => Some(Name::State),
+        _ => None,
     }
-    if words::is(word, b"notice") {
-        return Name::Notice;
-    }
-    if words::is(word, b"call") {
-        return Name::Call;
-    }
-    if words::is(word, b"entry") {
-        return Name::Entry;
-    }
-    if words::is(word, b"nondelivery") {
-        return Name::NonDelivery;
-    }
-    if words::is(word, b"handback") {
-        return Name::HandBack;
-    }
-    if words::is(word, b"allow") {
-        return Name::Allow;
-    }
-    if words::is(word, b"ask") {
-        return Name::Ask;
-    }
-    if words::is(word, b"state") {
-        return Name::State;
-    }
-    Name::Unknown
 }
 
-// The event of a name and the words from `at` on.
+// The event of a name and the words after it.
+// Kept: an arm for each name, and no table of functions: three of them are lent a page or a list, the others nothing.
 fn read_named(
     name: Name,
-    s: &[u8],
-    at: usize,
+    line: Line,
     page: &mut [u8; 4096],
     values: &mut [u32; 1024],
-) -> Event
-    requires { at ≤ length s.now }
-    ensures value { result ≡ named name (words (drop at s.now)) }
-    ensures page_is { PageIs (words (drop at s.now)) result page.new }
-    ensures values_are { ValuesAre (words (drop at s.now)) result values.new }
+) -> Option<Event>
+    ensures value { unwrap_or result Unreadable ≡ named name (words line.entry.left.now) }
+    ensures page_is { PageIs (words line.entry.left.now) (unwrap_or result Unreadable) page.new }
+    ensures values_are { ValuesAre (words line.entry.left.now) (unwrap_or result Unreadable) values.new }
 {
     match name {
-        Name::Start => read_start(s, at),
-        Name::Notice => read_notice(s, at, page),
-        Name::Call => read_call(s, at),
-        Name::Entry => read_entry(s, at),
-        Name::NonDelivery => read_non_delivery(s, at),
-        Name::HandBack => read_hand_back(s, at, page),
-        Name::Allow => read_allow(s, at, values),
-        Name::Ask => read_ask(s, at),
-        Name::State => ended(s, at, Event::State),
-        Name::Unknown => Event::Unreadable,
+        Name::Start => read_start(line),
+        Name::Notice => read_notice(line, page),
+        Name::Call => read_call(line),
+        Name::Entry => read_entry(line),
+        Name::NonDelivery => read_non_delivery(line),
+        Name::HandBack => read_hand_back(line, page),
+        Name::Allow => read_allow(line, values),
+        Name::Ask => read_ask(line),
+        Name::State => ended(line, Event::State),
     }
 }
 
+#[tactic(auto, unfolding(crate::specs::Lines::is_comment))]
 fn is_comment(line: &[u8]) -> bool
     ensures { result ≡ is_comment line.now }
 {
-    line.len() != 0 && line[0] == b'#'
+    matches!(line, [b'#', ..])
 }
 
 // The event of a line. Where it has a page, the page's bytes are in `page`, from its start on; where it has a list, its values are in `values`.
@@ -364,11 +286,12 @@ pub fn read(line: &[u8], page: &mut [u8; 4096], values: &mut [u32; 1024]) -> Eve
     if LONGEST < line.len() {
         return Event::Unreadable;
     }
-    let from = words::past_spaces(line, 0);
-    if from == line.len() {
+    let mut words = Line { left: line };
+    let Some(word) = words.next() else {
         return Event::Nothing;
-    }
-    let to = words::word_end(line, from);
-    let name = name_of(&line[from..to]);
-    read_named(name, line, to, page, values)
+    };
+    let Some(name) = name_of(word) else {
+        return Event::Unreadable;
+    };
+    read_named(name, words, page, values).unwrap_or(Event::Unreadable)
 }

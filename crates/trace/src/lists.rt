@@ -1,34 +1,29 @@
 // The values of a list, as the last words of a line tell them.
-ghost use Rattle.std.specs.Prelude.{◌≡◌, ◌≤◌, length, drop};
+ghost use Rattle.std.specs.Prelude.{◌≡◌};
 ghost use Rattle.trace.specs.Words.{words};
 ghost use Rattle.trace.specs.Lists.{count_of, ListIs};
 
-use crate::{MAX32, Number, numbers, words};
+use crate::words::Line;
+use crate::{MAX32, numbers};
 
 // A list has at most this many values.
 const ROOM: usize = 1024;
 
-// Stores the numbers that the words from `at` on are. Answers how many there are, where each has 32 bits and there is room for all.
-pub(crate) fn fill(s: &[u8], at: usize, values: &mut [u32; 1024]) -> Number
-    requires { at ≤ length s.now }
-    ensures value { result ≡ count_of (words (drop at s.now)) }
-    ensures list_is { ListIs (words (drop at s.now)) result values.new }
+// Stores the numbers that the words are. Answers how many there are, where each has 32 bits and there is room for all.
+pub(crate) fn fill(line: Line, values: &mut [u32; 1024]) -> Option<usize>
+    ensures value { result ≡ count_of (words line.entry.left.now) }
+    ensures list_is { ListIs (words line.entry.left.now) result values.new }
 {
     *values = [0; 1024];
-    let mut k = 0;
-    let mut i = words::past_spaces(s, at);
-    while i < s.len() {
-        let argument = numbers::argument_at(s, i, MAX32);
-        let number = argument.number;
-        let Number::Value(value) = number else {
-            return Number::Invalid;
-        };
-        if k == ROOM {
-            return Number::Invalid;
+    // Kept: the count is the answer too, and `enumerate` leaves none behind the loop.
+    let mut count = 0;
+    for word in line {
+        let value = numbers::up_to(MAX32, word)?;
+        if count == ROOM {
+            return None;
         }
-        values[k] = value as u32;
-        k += 1;
-        i = words::past_spaces(s, argument.next);
+        values[count] = value as u32;
+        count += 1;
     }
-    Number::Value(k as u64)
+    Some(count)
 }

@@ -1,109 +1,57 @@
-// Numbers as a trace writes them, and the arguments of an event: the words after its name, read as numbers.
-ghost use Rattle.std.specs.Prelude.{◌≡◌, ◌≤◌, ◌<◌, length, drop};
-ghost use Rattle.trace.specs.Numbers.{digit, digits_of, is_hex, number_of, up_to};
-ghost use Rattle.trace.specs.Words.{Read};
-ghost use Rattle.trace.specs.Lines.{Taken};
+// Numbers as a trace writes them.
+ghost use Rattle.std.specs.Prelude.{◌≡◌, ◌≤◌, ◌<◌, IfSome};
+ghost use Rattle.trace.specs.Numbers.{digit, digits_of, number_of};
+ghost use Rattle.trace.specs.Numbers.{up_to as Numbers·up_to};
 
-use crate::{Argument, Arguments, Number, words};
-
-// The value of a hexadecimal digit, 16 for any other byte.
-fn digit_of(b: u8) -> u64
+// The value of a hexadecimal digit.
+#[tactic(auto, unfolding(crate::specs::Numbers::digit))]
+fn digit_of(b: u8) -> Option<u64>
     ensures { result ≡ digit b }
 {
     match b {
-        b'0'..=b'9' => (b - b'0') as u64,
-        b'A'..=b'F' => (b - b'A') as u64 + 10,
-        b'a'..=b'f' => (b - b'a') as u64 + 10,
-        _ => 16,
+        b'0'..=b'9' => Some(u64::from(b - b'0')),
+        b'A'..=b'F' => Some(u64::from(b - b'A') + 10),
+        b'a'..=b'f' => Some(u64::from(b - b'a') + 10),
+        _ => None,
     }
 }
 
-// The number that the digits from `at` on are in a base. There is at least one.
-fn digits_from(s: &[u8], at: usize, base: u64) -> Number
+// The number that digits are in a base. There is at least one.
+#[tactic(auto, unfolding(crate::specs::Numbers::digits_of, crate::specs::Numbers::digits_from))]
+fn digits_of(digits: &[u8], base: u64) -> Option<u64>
     requires { 0 < base }
-    ensures { result ≡ digits_of base (drop at s.now) }
+    ensures { result ≡ digits_of base digits.now }
 {
-    if s.len() <= at {
-        return Number::Invalid;
+    if digits.is_empty() {
+        return None;
     }
     let mut value: u64 = 0;
-    let mut i = at;
-    while i < s.len() {
-        let d = digit_of(s[i]);
-        if base <= d || (u64::MAX - d) / base < value {
-            return Number::Invalid;
+    for b in digits {
+        let d = digit_of(*b)?;
+        if base <= d {
+            return None;
         }
-        value = value * base + d;
-        i += 1;
+        value = value.checked_mul(base)?.checked_add(d)?;
     }
-    Number::Value(value)
+    Some(value)
 }
 
-// Whether a word begins with `0x`.
-fn is_hex(word: &[u8]) -> bool
-    ensures { result ≡ is_hex word.now }
-{
-    2 <= word.len() && word[0] == b'0' && word[1] == b'x'
-}
-
-pub(crate) fn number_of(word: &[u8]) -> Number
+// A word that begins with `0x` is hexadecimal.
+#[tactic(auto, unfolding(crate::specs::Numbers::number_of, crate::specs::Numbers::is_hex))]
+pub(crate) fn number_of(word: &[u8]) -> Option<u64>
     ensures { result ≡ number_of word.now }
 {
-    if is_hex(word) {
-        digits_from(word, 2, 16)
-    } else {
-        digits_from(word, 0, 10)
+    match word {
+        [b'0', b'x', digits @ ..] => digits_of(digits, 16),
+        _ => digits_of(word, 10),
     }
 }
 
-fn up_to(most: u64, number: Number) -> Number
-    ensures { result ≡ up_to most number }
+// A word as a number of at most `most`.
+#[tactic(auto, unfolding(crate::specs::Numbers::up_to))]
+pub(crate) fn up_to(most: u64, word: &[u8]) -> Option<u64>
+    ensures value { result ≡ Numbers·up_to most (number_of word.now) }
+    ensures upper_bound { IfSome result (λ v. v ≤ most) }
 {
-    match number {
-        Number::Value(v) => { if v <= most { number } else { Number::Invalid } }
-        Number::Invalid => number,
-    }
-}
-
-// ---- arguments
-
-// The next word from `at` on as a number of at most `most`.
-pub(crate) fn argument_at(s: &[u8], at: usize, most: u64) -> Argument
-    requires { at ≤ length s.now }
-    ensures { Read most (drop at s.now) s.now result }
-{
-    let from = words::past_spaces(s, at);
-    let to = words::word_end(s, from);
-    let number = up_to(most, number_of(&s[from..to]));
-    Argument { number, next: to }
-}
-
-// The next words from `at` on as numbers, one for each limit and at most that large.
-pub(crate) fn arguments_at(s: &[u8], at: usize, limits: &[u64]) -> Arguments
-    requires at_in_bounds { at ≤ length s.now }
-    requires limits_len_bound { length limits.now ≤ 4 }
-    ensures { Taken limits.now (drop at s.now) s.now result }
-{
-    let mut values = [0; 4];
-    let mut next = at;
-    let mut k = 0;
-    while k < limits.len() {
-        let argument = argument_at(s, next, limits[k]);
-        next = argument.next;
-        let number = argument.number;
-        let Number::Value(value) = number else {
-            return Arguments {
-                values,
-                valid: false,
-                next,
-            };
-        };
-        values[k] = value;
-        k += 1;
-    }
-    Arguments {
-        values,
-        valid: true,
-        next,
-    }
+    number_of(word).filter(|v| *v <= most)
 }

@@ -11,7 +11,8 @@ use Rattle.model.specs.declared.Item.{Item}
 use Rattle.model.specs.declared.Phase.{Phase}
 use Rattle.model.specs.declared.Refusal.{Refusal}
 use Rattle.model.specs.declared.Refusal.TheVariants.{UnknownVcpu}
-use Rattle.model.specs.declared.Request.{Request}
+use Rattle.std.specs.Prelude.{Ok, Err}
+use Rattle.model.specs.Requests.{Parsed}
 use Rattle.model.specs.declared.Request.TheVariants as request
 use Rattle.model.specs.declared.Target.{Target}
 use Rattle.model.specs.declared.Vcpu.{Vcpu}
@@ -119,12 +120,12 @@ pub record Alike (u v : Vcpu) : Type 0 where
   pub pends : (y : Item) → pending y u ≡ pending y v
 
 -- a call that sends leaves these of its caller
-same_seen : (g : Verdict) (r : Request) (i k x : ℕ) (v : Vcpu) → (call_on g r i k v).reply ≡ sends x → Alike (call_on g r i k v).vcpu v
+same_seen : (g : Verdict) (r : Parsed) (i k x : ℕ) (v : Vcpu) → (call_on g r i k v).reply ≡ sends x → Alike (call_on g r i k v).vcpu v
 unfolding call_on call_effect
 same_seen (refuse c) r i k x v e = clash (cc)
-same_seen accept (request.Local o) i k x v e = clash (cc)
-same_seen accept (request.Refused c) i k x v e = clash (cc)
-same_seen accept (request.Icr y) i k x v e = record { phase = refl; pends = λ y. refl }
+same_seen accept (Ok (request.Local o)) i k x v e = clash (cc)
+same_seen accept (Err c) i k x v e = clash (cc)
+same_seen accept (Ok (request.Icr y)) i k x v e = record { phase = refl; pends = λ y. refl }
 
 -- the vCPU k is named, by its record
 abbrev named : Item → Target → ℕ → Module → ℕ → Vcpu → Bool
@@ -145,12 +146,12 @@ same_named m i f y t a h =
     (λ b l. rw (vcpu_at_count f.registrations (with_vcpu m i f.vcpu) (0 + b))
     (on_put m i f.vcpu (0 + b) h (λ k _ u v. named y t i m k v ≡ named y t i m k u) (alike_named y t i m i f.vcpu (vcpu_at m i) a) refl)))
 
-no_page : (g : Verdict) (r : Request) (i k : ℕ) (v : Vcpu) → (call_on g r i k v).page ≡ []
+no_page : (g : Verdict) (r : Parsed) (i k : ℕ) (v : Vcpu) → (call_on g r i k v).page ≡ []
 unfolding call_on call_effect
 no_page (refuse c) r i k v = refl
-no_page accept (request.Local o) i k v = refl
-no_page accept (request.Icr x) i k v = refl
-no_page accept (request.Refused c) i k v = refl
+no_page accept (Ok (request.Local o)) i k v = refl
+no_page accept (Ok (request.Icr x)) i k v = refl
+no_page accept (Err c) i k v = refl
 
 sent_by : (m : Module) (i : ℕ) (f : Effect) (y : ℕ) → size m ≤ length m.vcpus → i < length m.vcpus
     → f.reply ≡ sends y → f.page ≡ [] → Alike f.vcpu (vcpu_at m i)

@@ -19,9 +19,7 @@ use Rattle.model.specs.Codes.{Result}
 use Rattle.model.specs.Items.{item_in_flight}
 use Rattle.model.specs.Requests.{request_of}
 use Rattle.model.specs.Events.{call, entry, non_delivery, at, offer, vcpu_verdict, Reply, gives, sends, Effect, store, concluded, Out, step}
-use Rattle.vcpu.specs.declared.VcpuStepped.{VcpuStepped}
-use Rattle.vcpu.specs.declared.VcpuEntered.{VcpuEntered}
-use Rattle.vcpu.specs.Records.{VcpuOut, entry_on, non_delivery_on, call_on, send_below, delivered, stepped_out, entered_vcpu}
+use Rattle.vcpu.specs.Records.{VcpuOut, entry_on, non_delivery_on, call_on, send_below, delivered}
 use Rattle.vcpu.proofs.Stores.{put_same, size_le}
 use Rattle.vcpu.proofs.Lift.{on_record, call_step, lift_entry, lift-nonDelivery, lift_call, lift_sent}
 
@@ -56,17 +54,16 @@ record_is m i d h l = get_d_any m.vcpus i d _ (omega arith)
 
 -- ---- the events, by what they make of the record v of the vCPU i
 module _ (m : Module) (i : ℕ) (h : i < size m) (v : Vcpu) (here : v ≡ vcpu_at m i) where
-  pub entered : (iF sh bl : Bool) (r : VcpuEntered)
-      → entered_vcpu r ≡ entry_on (vcpu_verdict 0 0 v (entry iF sh bl)) (offer iF sh bl v) v
-      → on_record m i (entered_vcpu r) [] ≡ step m (at i (entry iF sh bl))
-  entered iF sh bl r e =
+  pub entered : (iF sh bl : Bool) (o : VcpuOut) → o ≡ entry_on (vcpu_verdict 0 0 v (entry iF sh bl)) (offer iF sh bl v) v
+      → on_record m i o [] ≡ step m (at i (entry iF sh bl))
+  entered iF sh bl o e =
       ap (λ (o : VcpuOut). on_record m i o [])
       (e ∙ ap (λ (u : Vcpu). entry_on (vcpu_verdict 0 0 u (entry iF sh bl)) (offer iF sh bl u) u) here)
       ∙ sym (lift_entry m i h iF sh bl)
 
-  pub returned : (r : VcpuStepped) → stepped_out r ≡ non_delivery_on (vcpu_verdict 0 0 v non_delivery) (item_in_flight v.flight) v
-      → on_record m i (stepped_out r) [] ≡ step m (at i non_delivery)
-  returned r e =
+  pub returned : (o : VcpuOut) → o ≡ non_delivery_on (vcpu_verdict 0 0 v non_delivery) (item_in_flight v.flight) v
+      → on_record m i o [] ≡ step m (at i non_delivery)
+  returned o e =
       ap (λ (o : VcpuOut). on_record m i o [])
       (e ∙ ap (λ (u : Vcpu). non_delivery_on (vcpu_verdict 0 0 u non_delivery) (item_in_flight u.flight) u) here)
       ∙ sym (lift-nonDelivery m i h)

@@ -6,7 +6,7 @@ use Rattle.vector_set.specs.Sets.{union, difference, intersection, count}
 use Rattle.vector_set.specs.Summaries.{summary_of}
 use Rattle.model.specs.declared.Vcpu.{Vcpu}
 use Rattle.model.specs.State.{with_irr, with_summary, with_irr_level}
-use Rattle.ipi.specs.declared.Counts.{Counts}
+use Rattle.model.specs.declared.Counts.{Counts}
 use Rattle.ipi.specs.declared.Posting.{Posting}
 use Rattle.ipi.specs.Posts.{posted}
 

@@ -1,16 +1,17 @@
 -- What an event does to the record of the vCPU that it names, refusals included: the model's step, seen from one record.
 -- Assumes nothing.
-use Rattle.std.specs.Prelude.{Bool, cond, not, ◌&&◌, List, [], ℕ, zero, suc, ◌*◌, ◌^◌}
-use Rattle.std.proofs.Math.Option.{Option}
+use Rattle.std.specs.Prelude.{Ok, Err, Bool, cond, not, ◌&&◌, List, [], ℕ, zero, suc, ◌*◌, ◌^◌}
+use Rattle.std.specs.Prelude.{Option}
 use Rattle.std.specs.Int.Bits.{bit_or}
 use Rattle.vcpu.specs.declared.VcpuStepped.{VcpuStepped}
-use Rattle.vcpu.specs.declared.VcpuNoticed.{VcpuNoticed}
-use Rattle.vcpu.specs.declared.VcpuEntered.{VcpuEntered}
 use Rattle.vcpu.specs.declared.VcpuCalled.{VcpuCalled}
 use Rattle.vcpu.specs.declared.Reply.{Reply as Called}
 use Rattle.vcpu.specs.declared.Reply.TheVariants as called
 use Rattle.model.specs.declared.Item.{Item}
-use Rattle.model.specs.declared.Request.{Request}
+use Rattle.model.specs.declared.Refusal.{Refusal}
+use Rattle.model.specs.declared.Counts.{Counts}
+use Rattle.model.specs.declared.Presentation.{Presentation}
+use Rattle.model.specs.Requests.{Parsed}
 use Rattle.model.specs.declared.Vcpu.{Vcpu}
 use Rattle.model.specs.declared.Module.{Module}
 use Rattle.model.specs.State.{is_active, vcpu_at, with_vcpu}
@@ -18,7 +19,7 @@ use Rattle.model.specs.Doorbell.{Part}
 use Rattle.model.specs.Ipi.{icr_item, icr_target, hits}
 use Rattle.model.specs.Items.{pending, mark}
 use Rattle.vector_set.specs.Bits.{one}
-use Rattle.model.specs.Codes.{code_of, Verdict, accept, refuse, Answer, Result, done, counted, answers, refused, result_of, admission_result, presented_result}
+use Rattle.model.specs.Codes.{code_of, Answered, Verdict, accept, refuse, Answer, Result, done, counted, answers, refused, admission_result, presented_result}
 use Rattle.model.specs.Requests.{forget}
 use Rattle.model.specs.Events.{Reply, gives, sends, Effect, call_effect, Out, noticed, items_new, items_merged, entered, undelivered, emptied, hand_back_result}
 
@@ -53,7 +54,7 @@ page_on (refuse c) q p = p
 page_on accept q p = q
 
 -- a call that asks for r, of the vCPU i at the count k: its answer or the ICR value to be sent, its caller's record and the count (5.3, 5.4, 7.19)
-unfoldable pub call_on : Verdict → Request → ℕ → ℕ → Vcpu → Effect
+unfoldable pub call_on : Verdict → Parsed → ℕ → ℕ → Vcpu → Effect
 call_on (refuse c) r i k v = record { reply = gives (refused (code_of c)); vcpu = v; registrations = k; page = [] }
 call_on accept r i k v = call_effect r i k v
 
@@ -83,18 +84,28 @@ abbrev pub delivered : Sending → Out
 delivered s = record { result = done s.mask; after = s.after; page = [] }
 
 -- ---- what the functions answer, in these terms (13.9)
-abbrev pub stepped_out : VcpuStepped → VcpuOut
-stepped_out r = record { result = result_of r.outcome; vcpu = r.vcpu }
+-- of the record v: a refusal leaves it as it was (11.19)
+abbrev pub refused_out : Refusal → Vcpu → VcpuOut
+refused_out c v = record { result = refused (code_of c); vcpu = v }
 
-abbrev pub noticed_vcpu : VcpuNoticed → VcpuOut
-noticed_vcpu r = record { result = admission_result r.admission; vcpu = r.vcpu }
+-- a non-delivery of v gives 0 with the record after it (9.7)
+abbrev pub returned_out : Vcpu → Answered Vcpu → VcpuOut
+returned_out v (Ok w) = record { result = done 0; vcpu = w }
+returned_out v (Err c) = refused_out c v
 
-abbrev pub entered_vcpu : VcpuEntered → VcpuOut
-entered_vcpu r = record { result = presented_result r.presentation; vcpu = r.vcpu }
+abbrev pub noticed_vcpu : Vcpu → Answered (VcpuStepped Counts) → VcpuOut
+noticed_vcpu v (Ok r) = record { result = admission_result (Ok r.answer); vcpu = r.vcpu }
+noticed_vcpu v (Err c) = refused_out c v
+
+abbrev pub entered_vcpu : Vcpu → Answered (VcpuStepped Presentation) → VcpuOut
+entered_vcpu v (Ok r) = record { result = presented_result (Ok r.answer); vcpu = r.vcpu }
+entered_vcpu v (Err c) = refused_out c v
 
 abbrev pub reply_of : Called → Reply
-reply_of (called.Gives o) = gives (result_of o)
+reply_of (called.Gives x) = gives (done x)
 reply_of (called.Sends x) = sends x
 
-abbrev pub called_out : VcpuCalled → Effect
-called_out r = record { reply = reply_of r.reply; vcpu = r.vcpu; registrations = r.registrations; page = [] }
+-- of the caller's record v, at the count k
+abbrev pub called_out : ℕ → Vcpu → Answered VcpuCalled → Effect
+called_out k v (Ok r) = record { reply = reply_of r.reply; vcpu = r.vcpu; registrations = r.registrations; page = [] }
+called_out k v (Err c) = record { reply = gives (refused (code_of c)); vcpu = v; registrations = k; page = [] }

@@ -11,12 +11,11 @@ pub fn post(v: Vcpu, posting: Posting) -> Vcpu
     requires { posting.word < 8 }
     ensures { (result ≡ posted posting v) × Posted posting v result }
 {
-    let k = posting.word;
     let mut w = v;
-    w.irr[k] = w.irr[k] | posting.bits;
-    w.summary = w.summary | ipi::summary_of(posting);
-    w.nmi = w.nmi | posting.nmi;
-    w.machine_check = w.machine_check | posting.machine_check;
+    w.irr[posting.word] |= posting.bits;
+    w.summary |= ipi::summary_of(posting);
+    w.nmi |= posting.nmi;
+    w.machine_check |= posting.machine_check;
     w
 }
 

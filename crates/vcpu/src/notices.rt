@@ -6,17 +6,16 @@ ghost use Rattle.ipi.specs.Posts.{counts_of};
 ghost use Rattle.vcpu.specs.Notices.{request_added, marks_added, marks_counted};
 
 use crate::items;
-use ipi::{Counts, Posting};
-use model::Vcpu;
+use ipi::Posting;
+use model::{Counts, Vcpu};
 
 // The record with what a notice asks for beside its marks (4.25 to 4.28, 4.42).
 pub fn add_request(v: Vcpu, posting: Posting, level: u32) -> Vcpu
     requires { posting.word < 8 }
     ensures { result ≡ request_added posting level v }
 {
-    let k = posting.word;
     let mut w = items::post(v, posting);
-    w.irr_level[k] = w.irr_level[k] | level;
+    w.irr_level[posting.word] |= level;
     w
 }
 
@@ -32,12 +31,11 @@ pub fn mark_words(summary: u8, edge: [u32; 8]) -> u8
 pub fn add_marks(v: Vcpu, edge: [u32; 8]) -> Vcpu
     ensures { result ≡ marks_added edge v }
 {
-    let irr = v.irr;
-    let pending = vector_set_algebra::union(irr, edge);
-    let mut w = v;
-    w.irr = pending;
-    w.summary = mark_words(v.summary, edge);
-    w
+    Vcpu {
+        irr: vector_set_algebra::union(v.irr, edge),
+        summary: mark_words(v.summary, edge),
+        ..v
+    }
 }
 
 // The marked vectors are counted with the posting that was made to the word and the marks (4.29, 4.37).

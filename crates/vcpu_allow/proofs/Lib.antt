@@ -1,3 +1,2 @@
-pub mod ListedLaws
 pub mod ValuesLaws
 pub mod ListSteps

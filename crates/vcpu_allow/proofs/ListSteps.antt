@@ -1,26 +1,28 @@
 -- A list of ECX values on the module: what the function of the values gives, stored in the vCPU's record, is the model's step.
 -- Assumes nothing.
-use mathlib.Core.Path.{◌≡◌, refl, sym, ap, ap₂, ◌∙◌}
-use mathlib.Core.Bool.{Bool, true, false, ◌||◌}
+use mathlib.Core.Path.{◌≡◌, refl, sym, ap, ap₂, ◌∙◌, subst}
+use mathlib.Core.Bool.{Bool, true, false, cond, ◌||◌}
+use Rattle.std.specs.Prelude.{Option, None, Some, Ok, Err}
 use mathlib.Core.List.{List, [], ◌∷◌, ◌++◌, map}
 use Prim.Native.Nat.{ℕ, ◌<◌}
-use lib.ListN.{length, take, drop}
+use lib.ListN.{length, get_or, take, drop}
 use borrow.Author.Tests.{lt-ltb}
 use Rattle.model.specs.declared.InFlight.TheVariants.{Nothing}
 use Rattle.model.specs.declared.Refusal.TheVariants.{NotActive}
 use Rattle.model.specs.declared.Vcpu.{Vcpu}
 use Rattle.model.specs.declared.Module.{Module}
 use Rattle.model.specs.State.{is_active, size, vcpu_at, with_vcpu, with_allowed, with_flight}
-use Rattle.model.specs.Codes.{Verdict, accept, refuse, verdict_code, coded}
+use Rattle.model.specs.Codes.{Answered, Verdict, accept, refuse, verdict_code, coded}
 use Rattle.model.specs.Requests.{nameable, permission, request_of, forget, serve, call_verdict}
 use Rattle.model.specs.Events.{allow, at, vcpu_verdict, verdict, call_effect, single, by_verdict, single_after, list_after, list_codes, effect}
-use Rattle.model.specs.Events.{concluded, decided, step, listed_out}
+use Rattle.model.specs.Events.{concluded, decided, step, listed_out, index_in}
 use Rattle.vector_set.specs.Bits.{bit_at}
 use Rattle.vector_set.proofs.Laws.{clash}
 use Rattle.model.proofs.Listed.{permission_by}
 use Rattle.model.proofs.Stored.{put_same, count_same, needed}
 use Rattle.vcpu.specs.Records.{page_on}
-use Rattle.vcpu_allow.specs.declared.Listed.{Listed}
+use Rattle.vcpu.proofs.Steps.{below_32, record_is}
+use Rattle.gate.proofs.Known.{found}
 use Rattle.vcpu_allow.specs.Values.{value_code, permitted, permitted_all, some_nameable, list_verdict, codes_in, listed_on}
 
 -- ---- one value on the record of an active vCPU
@@ -107,10 +109,16 @@ first_codes cs q = first_mapped value_code cs _
 abbrev pub permitted_vcpu : List ℕ → Vcpu → Vcpu
 permitted_vcpu s v = with_flight Nothing (with_allowed s v)
 
--- the module, by whether a value was accepted
-abbrev pub after_list : Bool → List ℕ → ℕ → Module → Module
-after_list true s i m = with_vcpu m i (permitted_vcpu s (vcpu_at m i))
-after_list false s i m = m
+-- what the function's answer leaves of the module, where u is the record of i
+abbrev pub after_list : Answered (Option (List ℕ)) → ℕ → Vcpu → Module → Module
+after_list (Ok (Some s)) i u m = with_vcpu m i (permitted_vcpu s u)
+after_list (Ok None) i u m = m
+after_list (Err c) i u m = m
+
+-- and what the event answers
+abbrev pub list_answer : Answered (Option (List ℕ)) → Answered ℕ
+list_answer (Ok o) = Ok 0
+list_answer (Err c) = Err c
 
 module _ (m : Module) (i : ℕ) (cs q : List ℕ) where
   abbrev v : Vcpu
@@ -123,7 +131,8 @@ module _ (m : Module) (i : ℕ) (cs q : List ℕ) where
   unfolding verdict vcpu_verdict list_verdict
   same_verdict l = rw (lt-ltb i (size m) l)
 
-  stored_list : (b : Bool) → some_nameable cs ≡ b → with_vcpu m i (forgets b (permitted_all cs v.allowed) v) ≡ after_list b (permitted_all cs v.allowed) i m
+  stored_list : (b : Bool) → some_nameable cs ≡ b
+      → with_vcpu m i (forgets b (permitted_all cs v.allowed) v) ≡ after_list (Ok (cond b (Some (permitted_all cs v.allowed)) None)) i v m
   stored_list true e = refl
   stored_list false e = ap (λ (s : List ℕ). with_vcpu m i (with_allowed s v)) (none_permitted cs v.allowed e) ∙ put_same m i
 
@@ -132,7 +141,7 @@ module _ (m : Module) (i : ℕ) (cs q : List ℕ) where
       → concluded (effect m.vmpl i m.registrations v (allow cs q)) i m
       ≡ record {
         result = coded 0 (take (length cs) (codes_in cs q));
-        after = after_list (some_nameable cs) (permitted_all cs v.allowed) i m;
+        after = after_list (listed_on accept cs v.allowed) i v m;
         page = codes_in cs q;
       }
   unfolding concluded effect codes_in
@@ -140,7 +149,7 @@ module _ (m : Module) (i : ℕ) (cs q : List ℕ) where
       ap₂ (λ (ks : List ℕ) (a : Module). record { result = coded 0 ks; after = a; page = ks ++ drop (length cs) q })
       (list_codes_lem i m.registrations cs v h)
       (count_same m i _ ∙ ap (with_vcpu m i) (list_after_lem i m.registrations cs v h) ∙ stored_list (some_nameable cs) refl)
-      ∙ ap (λ (ks : List ℕ). record { result = coded 0 ks; after = after_list (some_nameable cs) (permitted_all cs v.allowed) i m; page = codes_in cs q })
+      ∙ ap (λ (ks : List ℕ). record { result = coded 0 ks; after = after_list (listed_on accept cs v.allowed) i v m; page = codes_in cs q })
       (sym (first_codes cs q))
 
   is_active_lem : verdict_on ≡ accept → is_active v.phase ≡ true
@@ -148,37 +157,33 @@ module _ (m : Module) (i : ℕ) (cs q : List ℕ) where
   is_active_lem e = (needed (is_active v.phase) NotActive _ e).0
 
   by_list : (g : Verdict) → verdict_on ≡ g
-      → listed_out (record {
-        outcome = (listed_on g cs v.allowed).outcome;
-        after = after_list (listed_on g cs v.allowed).accepts (listed_on g cs v.allowed).allowed i m;
-      })
-      cs (page_on g (codes_in cs q) q)
+      → listed_out (record { answer = list_answer (listed_on g cs v.allowed); after = after_list (listed_on g cs v.allowed) i v m }) cs (page_on g (codes_in cs q) q)
       ≡ decided g m (at i (allow cs q))
-  unfolding listed_on page_on
+  unfolding page_on
   by_list (refuse c) e = refl
   by_list accept e = sym (accepted_list (is_active_lem e))
 
-  -- the function's answer, with module and second list as they are then, is the step
-  pub list_step : (r : Listed) (zs : List ℕ) → i < size m → r ≡ listed_on verdict_on cs v.allowed → zs ≡ page_on verdict_on (codes_in cs q) q
-      → listed_out (record { outcome = r.outcome; after = after_list r.accepts r.allowed i m }) cs zs ≡ step m (at i (allow cs q))
-  unfolding step
-  list_step r zs l e f =
-      ap₂ (λ (x : Listed) (ys : List ℕ). listed_out (record { outcome = x.outcome; after = after_list x.accepts x.allowed i m }) cs ys) e f
-      ∙ by_list verdict_on refl ∙ ap (λ (g : Verdict). decided g m (at i (allow cs q))) (sym (same_verdict l))
+  -- the function's answer o, with module and second list as they are then, is the step, where the record is read at k
+  module _ (k : ℕ) (d : Vcpu) (placed : Ok k ≡ index_in m i) (whole : length m.vcpus ≡ 32) where
+    abbrev u : Vcpu
+    u = get_or m.vcpus k d
 
-  -- the same by whether the record is stored, for a copy u of it
-  module _ (u : Vcpu) (here : u ≡ vcpu_at m i) (r : Listed) (zs : List ℕ) (l : i < size m)
-      (said : (r ≡ listed_on (list_verdict u.phase cs q) cs u.allowed) × (zs ≡ page_on (list_verdict u.phase cs q) (codes_in cs q) q)) where
-    told : (b : Bool) → r.accepts ≡ b → listed_out (record { outcome = r.outcome; after = after_list b r.allowed i m }) cs zs ≡ step m (at i (allow cs q))
-    told b e =
-        ap (λ (b : Bool). listed_out (record { outcome = r.outcome; after = after_list b r.allowed i m }) cs zs) (sym e)
-        ∙ list_step r zs l (said.0 ∙ ap (λ (w : Vcpu). listed_on (list_verdict w.phase cs q) cs w.allowed) here)
+    same : k ≡ i
+    same = (found m i k placed).1
+
+    below : i < size m
+    below = subst (λ (j : ℕ). j < size m) same (found m i k placed).0
+
+    here : u ≡ v
+    here = ap (λ (j : ℕ). get_or m.vcpus j d) same ∙ record_is m i d (below_32 m below) whole
+
+    pub list_step : (r o : Answered (Option (List ℕ))) (zs : List ℕ)
+        → (r ≡ listed_on (list_verdict u.phase cs q) cs u.allowed) × (zs ≡ page_on (list_verdict u.phase cs q) (codes_in cs q) q)
+        → r ≡ o → listed_out (record { answer = list_answer o; after = after_list o k u m }) cs zs ≡ step m (at i (allow cs q))
+    unfolding step
+    list_step r o zs said told =
+        ap₂ (λ (j : ℕ) (w : Vcpu). listed_out (record { answer = list_answer o; after = after_list o j w m }) cs zs) same here
+        ∙ ap₂ (λ (p : Answered (Option (List ℕ))) (ys : List ℕ). listed_out (record { answer = list_answer p; after = after_list p i v m }) cs ys)
+        (sym told ∙ said.0 ∙ ap (λ (w : Vcpu). listed_on (list_verdict w.phase cs q) cs w.allowed) here)
         (said.1 ∙ ap (λ (w : Vcpu). page_on (list_verdict w.phase cs q) (codes_in cs q) q) here)
-
-    pub list_kept : r.accepts ≡ false → listed_out (record { outcome = r.outcome; after = m }) cs zs ≡ step m (at i (allow cs q))
-    list_kept e = told false e
-
-    pub list_stored : r.accepts ≡ true
-        → listed_out (record { outcome = r.outcome; after = with_vcpu m i (permitted_vcpu r.allowed u) }) cs zs ≡ step m (at i (allow cs q))
-    list_stored e =
-        ap (λ (w : Vcpu). listed_out (record { outcome = r.outcome; after = with_vcpu m i (permitted_vcpu r.allowed w) }) cs zs) here ∙ told true e
+        ∙ by_list verdict_on refl ∙ ap (λ (g : Verdict). decided g m (at i (allow cs q))) (sym (same_verdict below))

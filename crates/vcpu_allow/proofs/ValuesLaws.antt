@@ -3,7 +3,7 @@
 use mathlib.Core.Path.{◌≡◌, refl, sym, ap, ◌∙◌}
 use mathlib.Core.Bool.{Bool, true, false, cond, ◌||◌}
 use mathlib.Core.List.{List, ◌++◌, map}
-use Prim.Native.Nat.{ℕ, suc, ◌+◌, ◌-◌, ◌*◌, ◌/◌, ◌%◌, ◌^◌, ◌<◌, ◌≤◌}
+use Prim.Native.Nat.{ℕ, suc, ◌+◌, ◌-◌, ◌/◌, ◌%◌, ◌^◌, ◌<◌, ◌≤◌}
 use native.Mathlib.Omega.{arith}
 use native.Mathlib.Numerals.{add-one}
 use lib.Bits.{bit_and, bit_or}
@@ -15,7 +15,7 @@ use Rattle.model.specs.Requests.{nameable}
 use Rattle.vector_set.specs.Bits.{bit_at}
 use Rattle.vector_set.specs.Sets.{insert, remove, Words}
 use Rattle.vector_set.proofs.Laws.{words_insert, words_remove}
-use Rattle.vector_set.proofs.WordLaws.{one_shl, insert_word, remove_word}
+use Rattle.vector_set.proofs.WordLaws.{insert_bit, remove_bit}
 use Rattle.vcpu_allow.specs.Values.{value_code, permitted, permitted_word, permitted_all, some_nameable, codes_in}
 
 -- ---- one value
@@ -32,13 +32,10 @@ module _ (c : ℕ) (s : List ℕ) where
       x : ℕ
       x = get_or s (c % 256 / 32) 0
 
-      bit : (1 * 2 ^ (c % 256 % 32)) % 2 ^ 32 ≡ 2 ^ (c % 256 % 32)
-      bit = one_shl (c % 256 % 32) (omega arith)
-
       go : (b : Bool) → set s (c % 256 / 32) (cond b (bit_or x (2 ^ (c % 256 % 32))) (bit_and x (2 ^ 32 - 1 - 2 ^ (c % 256 % 32))))
           ≡ cond b (insert (c % 256) s) (remove (c % 256) s)
-      go true = ap (λ (n : ℕ). set s (c % 256 / 32) (bit_or x n)) (sym bit) ∙ insert_word s (c % 256) w (omega arith)
-      go false = ap (λ (n : ℕ). set s (c % 256 / 32) (bit_and x (2 ^ 32 - 1 - n))) (sym bit) ∙ remove_word s (c % 256) w (omega arith)
+      go true = insert_bit s (c % 256) w (omega arith)
+      go false = remove_bit s (c % 256) w (omega arith)
 
   pub words_permitted : Words s → Words (permitted c s)
   unfolding permitted

@@ -1,13 +1,11 @@
 -- What a list of ECX values does to the allowed set of its vCPU, each value as call 4 does, and what it answers.
 -- Assumes nothing.
-use Rattle.std.specs.Prelude.{Bool, false, cond, ◌||◌, List, [], ◌∷◌, ◌++◌, map, ℕ, ◌-◌, ◌%◌, ◌^◌, length, drop}
+use Rattle.std.specs.Prelude.{Option, None, Some, Ok, Err, Bool, false, cond, ◌||◌, List, [], ◌∷◌, ◌++◌, map, ℕ, ◌-◌, ◌%◌, ◌^◌, length, drop}
 use Rattle.std.specs.Int.Bits.{bit_and, bit_or}
-use Rattle.vcpu_allow.specs.declared.Listed.{Listed}
-use Rattle.model.specs.declared.Outcome.TheVariants.{Done, Refused}
 use Rattle.model.specs.declared.Refusal.TheVariants.{NotActive, BadParameter, BadList}
 use Rattle.model.specs.declared.Phase.{Phase}
 use Rattle.model.specs.State.{is_active}
-use Rattle.model.specs.Codes.{code_of, Verdict, accept, refuse, need}
+use Rattle.model.specs.Codes.{code_of, Answered, Verdict, accept, refuse, need}
 use Rattle.model.specs.Requests.{nameable}
 use Rattle.model.specs.Events.{list_fits}
 use Rattle.vector_set.specs.Bits.{bit_at}
@@ -45,7 +43,7 @@ list_verdict p xs ys = need (is_active p) NotActive (need (list_fits xs ys) BadL
 unfoldable pub codes_in : List ℕ → List ℕ → List ℕ
 codes_in xs ys = map value_code xs ++ drop (length xs) ys
 
--- the answer, by the verdict (5.30, 5.32, 11.19)
-unfoldable pub listed_on : Verdict → List ℕ → List ℕ → Listed
-listed_on (refuse c) xs s = record { outcome = Refused c; accepts = false; allowed = s }
-listed_on accept xs s = record { outcome = Done 0; accepts = some_nameable xs; allowed = permitted_all xs s }
+-- the answer, by the verdict: the set after the list, where one of its values is accepted (5.30, 5.32, 11.19)
+abbrev pub listed_on : Verdict → List ℕ → List ℕ → Answered (Option (List ℕ))
+listed_on (refuse c) xs s = Err c
+listed_on accept xs s = Ok (cond (some_nameable xs) (Some (permitted_all xs s)) None)

@@ -1,5 +1,5 @@
-pub mod Moves
 pub mod Sets
 pub mod Told
 pub mod Answered
 pub mod Asked
+pub mod Moves

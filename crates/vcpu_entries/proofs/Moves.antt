@@ -1,9 +1,9 @@
 -- What an entry stores in place makes the record of the definitions.
---     in-set             a vector's word is one of eight
---     level-stored       the words of a vector in PL and SL: its level mark has moved (8.12)
---     vector-stored      its words in P and S, the summary and what is in flight, and then its level mark: the vector is presented (8.11, 8.14, 2.21)
---     settled_same       marks and what is in flight, where none of them changes (8.3, 8.15)
+--     level_stored       the words of a vector in PL and SL: its level mark has moved (8.12)
+--     vector_stored      its words in P and S, the summary and what is in flight, and then its level mark: the vector is presented (8.11, 8.14, 2.21)
+--     settled_kept, settled_stored     marks and what is in flight, where none of them changes, and where they are stored (8.3, 8.15)
 -- Assumes nothing.
+use Rattle.std.specs.Prelude.{None, Some}
 use mathlib.Core.Path.{◌≡◌, refl, sym, ap, ap₂, ◌∙◌}
 use mathlib.Core.Bool.{Bool, true, false, cond, not, ◌&&◌, ◌||◌, or-false, and-false, and-true}
 use mathlib.Core.List.{List}
@@ -26,19 +26,17 @@ use Rattle.model.specs.declared.InFlight.{InFlight}
 use Rattle.model.specs.declared.InFlight.TheVariants as flight
 use Rattle.model.specs.declared.Item.TheVariants as item
 use Rattle.model.specs.declared.Presentation.{Presentation}
-use Rattle.model.specs.declared.Presentation.TheVariants.{Nothing, Nmi, MachineCheck, Vector, Window, Refused}
+use Rattle.model.specs.declared.Presentation.TheVariants.{Nothing, Nmi, MachineCheck, Vector, Window}
 use Rattle.model.specs.declared.Vcpu.{Vcpu}
-use Rattle.model.specs.State.{is_in_flight, with_irr, with_isr, with_irr_level, with_isr_level, with_flight, with_summary}
+use Rattle.model.specs.State.{is_in_flight, with_nmi, with_machine_check, with_irr, with_isr, with_irr_level, with_isr_level, with_flight, with_summary}
 use Rattle.model.specs.Codes.{presents}
 use Rattle.model.specs.Items.{unmark}
 use Rattle.model.specs.Requests.{forget}
 use Rattle.model.specs.Events.{gains, present, entered}
-use Rattle.vcpu_stages.specs.Stages.{marks_after, settled, bit_of, others_of, words_after, level_words_after}
+use Rattle.vcpu_stages.specs.Stages.{marks_of, marks_change, marks_after, settled, bit_of, others_of, words_after, level_words_after}
+use Rattle.vcpu_stages.specs.declared.words.Marks.{Marks}
 use Rattle.vcpu_stages.specs.declared.words.Words.{Words as Stored}
 use Rattle.vcpu_stages.specs.declared.words.LevelWords.{LevelWords}
-
-pub in_set : (x w : ℕ) → x < 256 → w ≡ x / 32 → w < 8
-in_set x w l e = omega arith
 
 -- ---- the word of x in a set: x leaves it, joins it, joins it with its mark
 left_word : (s : List ℕ) (x : ℕ) → Words s → x < 256 → set s (x / 32) (bit_and (get_or s (x / 32) 0) (others_of x)) ≡ remove x s
@@ -122,11 +120,29 @@ not_in_flight (flight.Vector x) e = clash (cc)
 forgotten : (v : Vcpu) → is_in_flight v.flight ≡ false → forget v ≡ v
 forgotten v e = ap (λ (f : InFlight). with_flight f v) (not_in_flight v.flight e)
 
-pub settled_same : (p : Presentation) (v : Vcpu) → (marks_after p v).changes ≡ false → settled p v ≡ v
-unfolding marks_after
+settled_same : (p : Presentation) (v : Vcpu) → marks_change p v ≡ false → settled p v ≡ v
 settled_same Nothing v e = forgotten v e
 settled_same Nmi v e = clash (cc)
 settled_same MachineCheck v e = clash (cc)
 settled_same (Vector x) v e = forgotten v e
 settled_same (Window x) v e = forgotten v e
-settled_same (Refused c) v e = refl
+
+-- what may be stored of them
+none_of : (b : Bool) (r : Marks) → None ≡ cond b (Some r) None → b ≡ false
+none_of true r e = clash (cc)
+none_of false r e = refl
+
+some_of : (b : Bool) (r s : Marks) → Some s ≡ cond b (Some r) None → s ≡ r
+some_of true r s e = cc
+some_of false r s e = clash (cc)
+
+pub settled_kept : (p : Presentation) (v : Vcpu) → None ≡ marks_after p v → v ≡ settled p v
+unfolding marks_after
+settled_kept p v e = sym (settled_same p v (none_of (marks_change p v) (marks_of p v) e))
+
+pub settled_stored : (p : Presentation) (v : Vcpu) (r : Marks) → Some r ≡ marks_after p v
+    → with_flight r.flight (with_machine_check r.machine_check (with_nmi r.nmi v)) ≡ settled p v
+unfolding marks_after
+settled_stored p v r e =
+    ap (λ (y : Marks). with_flight y.flight (with_machine_check y.machine_check (with_nmi y.nmi v)))
+    (some_of (marks_change p v) (marks_of p v) r e)

@@ -1,15 +1,17 @@
--- What the arms of a `match` tell of what an entry offered.
+-- What an entry makes of a record, by what it answers; what the arms of a `match` tell of an answer.
+--     after, entering      the record after an entry that gave a result; with it, the entry is that of the definitions
+--     none_shown           the answer presents nothing
 -- Assumes nothing.
-use mathlib.Core.Path.{◌≡◌, refl}
+use mathlib.Core.Path.{◌≡◌, refl, ap, ap₂, ◌∙◌}
 use Prim.Native.Nat.{ℕ}
 use Rattle.model.specs.declared.Presentation.{Presentation}
 use Rattle.model.specs.declared.Presentation.TheVariants as shown
-use Rattle.model.specs.declared.Refusal.{Refusal}
 use Rattle.model.specs.declared.Vcpu.{Vcpu}
-use Rattle.model.specs.Codes.{Result, done, counted, coded, answers, refused, presented_result}
+use Rattle.model.specs.Codes.{Verdict, accept, refuse, Answer, Result, done, counted, coded, answers, refused, answer_of}
 use Rattle.model.specs.Requests.{forget}
 use Rattle.model.specs.Events.{entered}
-use Rattle.vcpu.specs.Records.{VcpuOut}
+use Rattle.vcpu.specs.Records.{VcpuOut, entry_on}
+use Rattle.vcpu_stages.specs.Stages.{answered_on}
 
 -- a result and the record after it
 abbrev pub out_of : Result → Vcpu → VcpuOut
@@ -23,13 +25,18 @@ after (coded x ks) v = v
 after (answers o) v = entered o (forget v)
 after (refused c) v = v
 
--- an answer that presents nothing, and is no refusal
-pub none_shown : (r : Presentation) (v : Vcpu) → (r ≡ shown.Nmi → ⊥) → (r ≡ shown.MachineCheck → ⊥) → ((x : ℕ) → r ≡ shown.Vector x → ⊥)
-    → ((c : Refusal) → r ≡ shown.Refused c → ⊥) → forget v ≡ after (presented_result r) v
+-- the result r and the record w after it, where the verdict is g and the offer o
+pub entering : (g : Verdict) (o : Answer) (v w : Vcpu) (r : Result) → r ≡ answered_on g o → w ≡ after r v → out_of r w ≡ entry_on g o v
+unfolding entry_on
+entering accept o v w r e h = ap₂ out_of e (h ∙ ap (λ (x : Result). after x v) e)
+entering (refuse c) o v w r e h = ap₂ out_of e (h ∙ ap (λ (x : Result). after x v) e)
+
+-- an answer that presents nothing
+pub none_shown : (p : Presentation) (v : Vcpu) → (p ≡ shown.Nmi → ⊥) → (p ≡ shown.MachineCheck → ⊥) → ((x : ℕ) → p ≡ shown.Vector x → ⊥)
+    → forget v ≡ entered (answer_of p) (forget v)
 unfolding entered
-none_shown shown.Nothing v n m x f = refl
-none_shown shown.Nmi v n m x f = absurd (n refl)
-none_shown shown.MachineCheck v n m x f = absurd (m refl)
-none_shown (shown.Vector k) v n m x f = absurd (x k refl)
-none_shown (shown.Window k) v n m x f = refl
-none_shown (shown.Refused c) v n m x f = absurd (f c refl)
+none_shown shown.Nothing v n m x = refl
+none_shown shown.Nmi v n m x = absurd (n refl)
+none_shown shown.MachineCheck v n m x = absurd (m refl)
+none_shown (shown.Vector k) v n m x = absurd (x k refl)
+none_shown (shown.Window k) v n m x = refl

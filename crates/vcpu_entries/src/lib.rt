@@ -1,18 +1,20 @@
 // Entry and non-delivery on one record.
 #![tactic(auto)]
 
-ghost use Rattle.std.specs.Prelude.{◌≡◌, true, false, eqb};
-ghost use Rattle.std.proofs.Math.Option.{some};
+ghost use Rattle.std.specs.Prelude.{◌≡◌, true, false, eqb, is_some};
+ghost use Rattle.std.specs.Prelude.{Some};
 ghost use Rattle.model.specs.Codes.{Answer, presented_result, presented_by};
 ghost use Rattle.model.specs.Items.{item_in_flight};
 ghost use Rattle.model.specs.Requests.{forget};
 ghost use Rattle.vector_set.specs.Summaries.{remade};
-ghost use Rattle.model.specs.Events.{Act, offer, entered, undelivered, gains, vcpu_verdict, is_some};
+ghost use Rattle.model.specs.Events.{Act, offer, entered, undelivered, gains, vcpu_verdict};
 ghost use Rattle.vcpu_stages.specs.Stages.{answered_on};
-ghost use Rattle.vcpu.specs.Records.{entry_on, non_delivery_on, stepped_out, entered_vcpu};
+ghost use Rattle.vcpu.specs.Records.{entry_on, non_delivery_on, returned_out, entered_vcpu};
 
-use model::{InFlight, Item, Outcome, Phase, Presentation, Refusal, Vcpu};
-use vcpu::{VcpuEntered, VcpuStepped, records};
+use model::{InFlight, Item, Phase, Presentation, Refusal, Vcpu};
+use vcpu::{VcpuStepped, records};
+use vcpu_stages::answers;
+use vector_set::word_of;
 
 // The set t, with x if s has x.
 fn gain(x: u8, s: [u32; 8], t: [u32; 8]) -> [u32; 8]
@@ -28,148 +30,146 @@ fn gain(x: u8, s: [u32; 8], t: [u32; 8]) -> [u32; 8]
 fn summary_after(summary: u8, irr: [u32; 8], x: u8) -> u8
     ensures { result ≡ remade (λ y. eqb y x) irr summary }
 {
-    let k = (x / 32) as usize;
+    let k = word_of(x);
     vector_set_search::with_word(summary, k, irr[k])
 }
 
+// Kept: a function for each mark, here and where they are returned: they differ in a field, which is no parameter.
 // The NMI is marked no more, and is in flight (8.6, 8.14).
+#[tactic(auto, unfolding(model::specs::Events::entered, model::specs::Events::present, model::specs::Items::unmark))]
 fn present_nmi(v: Vcpu) -> Vcpu
     ensures { result ≡ entered (Answer.presents Item.Nmi) (forget v) }
 {
-    let mut w = v;
-    w.nmi = false;
-    records::with_flight(w, InFlight::Nmi)
+    Vcpu {
+        nmi: false,
+        flight: InFlight::Nmi,
+        ..v
+    }
 }
 
 // The machine check is marked no more, and is in flight (8.14, 8.17).
+#[tactic(auto, unfolding(model::specs::Events::entered, model::specs::Events::present, model::specs::Items::unmark))]
 fn present_machine_check(v: Vcpu) -> Vcpu
     ensures { result ≡ entered (Answer.presents Item.MachineCheck) (forget v) }
 {
-    let mut w = v;
-    w.machine_check = false;
-    records::with_flight(w, InFlight::MachineCheck)
+    Vcpu {
+        machine_check: false,
+        flight: InFlight::MachineCheck,
+        ..v
+    }
 }
 
+// Kept: this and `return_vector` mirror one another: a common function would be handed four sets and give back four.
 // The vector moves from the IRR to the ISR, its level mark with it, and is in flight (8.11, 8.12, 8.14).
+#[tactic(auto, unfolding(model::specs::Events::entered, model::specs::Events::present, model::specs::Items::unmark, vector_set::specs::Sets::remove))]
 fn present_vector(v: Vcpu, x: u8) -> Vcpu
     ensures { result ≡ entered (Answer.presents (Item.Vector x)) (forget v) }
 {
-    let irr = v.irr;
-    let isr = v.isr;
-    let irr_level = v.irr_level;
-    let isr_level = v.isr_level;
-    let pending = vector_set::remove(irr, x);
-    let service = vector_set::insert(isr, x);
-    let pending_level = vector_set::remove(irr_level, x);
-    let service_level = gain(x, irr_level, isr_level);
-    let mut w = v;
-    w.irr = pending;
-    w.summary = summary_after(v.summary, pending, x);
-    w.isr = service;
-    w.irr_level = pending_level;
-    w.isr_level = service_level;
-    records::with_flight(w, InFlight::Vector(x))
+    let irr = vector_set::remove(v.irr, x);
+    Vcpu {
+        irr,
+        summary: summary_after(v.summary, irr, x),
+        isr: vector_set::insert(v.isr, x),
+        irr_level: vector_set::remove(v.irr_level, x),
+        isr_level: gain(x, v.irr_level, v.isr_level),
+        flight: InFlight::Vector(x),
+        ..v
+    }
 }
 
+// Kept: the flags as parameters, here and above: they are the arguments of the event (8.1), and each stage takes those that it asks for.
 // What an entry on one record answers: one that is not active is refused (8.2, 8.6 to 8.13, 8.17, 8.18, 8.20).
-pub fn answer_of(v: Vcpu, iflag: bool, shadow: bool, blocked: bool) -> Presentation
+pub fn answer_of(v: Vcpu, iflag: bool, shadow: bool, blocked: bool) -> Result<Presentation, Refusal>
     ensures { presented_result result ≡ answered_on (vcpu_verdict 0 0 v (Act.entry iflag shadow blocked)) (offer iflag shadow blocked v) }
 {
-    let before = vcpu_stages::answers::answer_before(v, shadow, blocked);
-    let Presentation::Nothing = before else {
-        return before;
-    };
-    let found = vcpu_stages::answers::candidate(v);
-    vcpu_stages::answers::answer_to(found, v, iflag & !shadow)
+    if let Some(presentation) = answers::answer_before(v, shadow, blocked)? {
+        return Ok(presentation);
+    }
+    Ok(answers::answer_to(answers::candidate(v), v, iflag & !shadow))
 }
 
 // An entry on one record: what was in flight is forgotten, and what is presented is in flight (8.2 to 8.14, 8.17 to 8.19).
-pub fn entry_vcpu(v: Vcpu, iflag: bool, shadow: bool, blocked: bool) -> VcpuEntered
-    ensures { entered_vcpu result ≡ entry_on (vcpu_verdict 0 0 v (Act.entry iflag shadow blocked)) (offer iflag shadow blocked v) v }
+pub fn entry_vcpu(
+    v: Vcpu,
+    iflag: bool,
+    shadow: bool,
+    blocked: bool,
+) -> Result<VcpuStepped<Presentation>, Refusal>
+    ensures { entered_vcpu v result ≡ entry_on (vcpu_verdict 0 0 v (Act.entry iflag shadow blocked)) (offer iflag shadow blocked v) v }
 {
-    let presentation = answer_of(v, iflag, shadow, blocked);
-    let vcpu = match presentation {
+    let answer = answer_of(v, iflag, shadow, blocked)?;
+    let vcpu = match answer {
         Presentation::Nmi => present_nmi(v),
         Presentation::MachineCheck => present_machine_check(v),
         Presentation::Vector(x) => present_vector(v, x),
-        Presentation::Refused(_) => v,
         _ => records::with_flight(v, InFlight::Nothing),
     };
-    VcpuEntered { presentation, vcpu }
+    Ok(VcpuStepped { answer, vcpu })
 }
 
 // Whether an entry with IF and without shadow and NMI-blocked would present anything (8.21 to 8.23).
 pub fn would_present_vcpu(v: Vcpu) -> bool
     ensures { result ≡ is_some (presented_by (answered_on (vcpu_verdict 0 0 v (Act.entry true false false)) (offer true false false v))) }
 {
-    let presentation = answer_of(v, true, false, false);
-    match presentation {
-        Presentation::Nmi => true,
-        Presentation::MachineCheck => true,
-        Presentation::Vector(_) => true,
-        _ => false,
-    }
+    matches!(
+        answer_of(v, true, false, false),
+        Ok(Presentation::Nmi | Presentation::MachineCheck | Presentation::Vector(_))
+    )
 }
 
 // The vector moves back from the ISR to the IRR, its level mark with it (9.4 to 9.7).
+#[tactic(auto, unfolding(model::specs::Events::undelivered, model::specs::Events::give_back, model::specs::Items::mark, vector_set::specs::Sets::insert))]
 fn return_vector(v: Vcpu, x: u8) -> Vcpu
-    ensures { result ≡ undelivered (some (Item.Vector x)) v }
+    ensures { result ≡ undelivered (Some (Item.Vector x)) v }
 {
-    let irr = v.irr;
-    let isr = v.isr;
-    let irr_level = v.irr_level;
-    let isr_level = v.isr_level;
-    let pending = vector_set::insert(irr, x);
-    let service = vector_set::remove(isr, x);
-    let pending_level = gain(x, isr_level, irr_level);
-    let service_level = vector_set::remove(isr_level, x);
-    let mut w = v;
-    w.irr = pending;
-    w.summary = summary_after(v.summary, pending, x);
-    w.isr = service;
-    w.irr_level = pending_level;
-    w.isr_level = service_level;
-    records::with_flight(w, InFlight::Nothing)
+    let irr = vector_set::insert(v.irr, x);
+    Vcpu {
+        irr,
+        summary: summary_after(v.summary, irr, x),
+        isr: vector_set::remove(v.isr, x),
+        irr_level: gain(x, v.isr_level, v.irr_level),
+        isr_level: vector_set::remove(v.isr_level, x),
+        flight: InFlight::Nothing,
+        ..v
+    }
 }
 
 // The NMI is marked again (9.3, 9.7).
+#[tactic(auto, unfolding(model::specs::Events::undelivered, model::specs::Events::give_back, model::specs::Items::mark))]
 fn return_nmi(v: Vcpu) -> Vcpu
-    ensures { result ≡ undelivered (some Item.Nmi) v }
+    ensures { result ≡ undelivered (Some Item.Nmi) v }
 {
-    let mut w = v;
-    w.nmi = true;
-    records::with_flight(w, InFlight::Nothing)
+    Vcpu {
+        nmi: true,
+        flight: InFlight::Nothing,
+        ..v
+    }
 }
 
 // The machine check is marked again (9.7, 9.9).
+#[tactic(auto, unfolding(model::specs::Events::undelivered, model::specs::Events::give_back, model::specs::Items::mark))]
 fn return_machine_check(v: Vcpu) -> Vcpu
-    ensures { result ≡ undelivered (some Item.MachineCheck) v }
+    ensures { result ≡ undelivered (Some Item.MachineCheck) v }
 {
-    let mut w = v;
-    w.machine_check = true;
-    records::with_flight(w, InFlight::Nothing)
-}
-
-fn returned(vcpu: Vcpu) -> VcpuStepped
-    ensures { result ≡ record { outcome = Outcome.Done 0; vcpu = vcpu } }
-{
-    let outcome = Outcome::Done(0);
-    VcpuStepped { outcome, vcpu }
+    Vcpu {
+        machine_check: true,
+        flight: InFlight::Nothing,
+        ..v
+    }
 }
 
 // A non-delivery on one record: what was in flight is pending again (9.2 to 9.7, 9.9).
-pub fn non_delivery_vcpu(v: Vcpu) -> VcpuStepped
-    ensures { stepped_out result ≡ non_delivery_on (vcpu_verdict 0 0 v Act.non_delivery) (item_in_flight v.flight) v }
+#[tactic(auto, unfolding(vcpu::specs::Records::non_delivery_on, model::specs::Events::vcpu_verdict))]
+pub fn non_delivery_vcpu(v: Vcpu) -> Result<Vcpu, Refusal>
+    ensures { returned_out v result ≡ non_delivery_on (vcpu_verdict 0 0 v Act.non_delivery) (item_in_flight v.flight) v }
 {
-    let phase = v.phase;
-    let Phase::Active = phase else {
-        return records::refused(v, Refusal::NotActive);
+    let Phase::Active = v.phase else {
+        return Err(Refusal::NotActive);
     };
-    let flight = v.flight;
-    match flight {
-        InFlight::Nothing => records::refused(v, Refusal::NothingInFlight),
-        InFlight::Nmi => returned(return_nmi(v)),
-        InFlight::MachineCheck => returned(return_machine_check(v)),
-        InFlight::Vector(x) => returned(return_vector(v, x)),
+    match v.flight {
+        InFlight::Nothing => Err(Refusal::NothingInFlight),
+        InFlight::Nmi => Ok(return_nmi(v)),
+        InFlight::MachineCheck => Ok(return_machine_check(v)),
+        InFlight::Vector(x) => Ok(return_vector(v, x)),
     }
 }

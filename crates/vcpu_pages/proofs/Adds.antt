@@ -2,7 +2,7 @@
 use mathlib.Core.Path.{◌≡◌, refl, sym, ap, ap₂, ◌∙◌}
 use mathlib.Core.Bool.{Bool, true, false, cond, not, ◌&&◌, ◌||◌, and-true, and-false, or-false, or_comm}
 use mathlib.Core.List.{List}
-use mathlib.Core.Option.{Option, none, some}
+use Rattle.std.specs.Prelude.{Option, None, Some}
 use Prim.Native.Nat.{ℕ, ◌+◌, ◌/◌, ◌%◌, ◌^◌, ◌<◌}
 use native.Mathlib.Omega.{arith}
 use native.Mathlib.Nat.{add_assoc}
@@ -26,11 +26,10 @@ use Rattle.model.specs.Items.{item_count, mark_all}
 use Rattle.model.specs.Doorbell.{bit_of, level_bit, many_bit, is_vector, is_level, in_part, no_part}
 use Rattle.model.specs.Doorbell.{nmi_bit, machine_check_bit, admits_mark, admits_level, admits_edge, admits}
 use Rattle.model.specs.Events.{noticed, items_new, items_merged}
-use Rattle.ipi.specs.declared.Counts.{Counts}
+use Rattle.model.specs.declared.Counts.{Counts}
 use Rattle.ipi.specs.declared.Posting.{Posting}
 use Rattle.ipi.specs.Posts.{summary_in, counts_of}
-use Rattle.descriptor.specs.declared.Requested.{Requested}
-use Rattle.descriptor.specs.Requests.{single_bit, level_of, requested_in}
+use Rattle.descriptor.specs.Requests.{Asked, single_bit, level_of, requested_in}
 use Rattle.descriptor.proofs.Admits.{level_is, one_at}
 use Rattle.vcpu.specs.Notices.{request_added, marks_added, marks_counted}
 use Rattle.vcpu_pages.proofs.Marked.{posting_summary, both_summaries, put_is, none_joined}
@@ -48,7 +47,7 @@ module _ (a d : List ℕ) where
   part_level : (y : ℕ) → is_level (admits_level a d) y ≡ (levelled && eqb y (get_or d 0 0))
   part_level y = ap (λ (o : Option ℕ). is_level o y) (level_is a d refl refl) ∙ go levelled
     where
-      go : (b : Bool) → is_level (cond b (some (get_or d 0 0)) none) y ≡ (b && eqb y (get_or d 0 0))
+      go : (b : Bool) → is_level (cond b (Some (get_or d 0 0)) None) y ≡ (b && eqb y (get_or d 0 0))
       go true = refl
       go false = refl
 
@@ -192,17 +191,17 @@ module _ (a d : List ℕ) (v : Vcpu) (fit : Fits v) (small : get_or d 0 0 < 256)
 
 -- ---- by the request that was read
 -- the record with it, and what is counted of it
-abbrev pub added : Vcpu → Requested → Vcpu
+abbrev pub added : Vcpu → Asked → Vcpu
 added v r = request_added r.posting r.level v
 
-abbrev pub counts : Vcpu → Requested → Counts
+abbrev pub counts : Vcpu → Asked → Counts
 counts v r = counts_of r.posting (get_or v.irr r.posting.word 0) v.nmi v.machine_check
 
-pub many_of : (a d : List ℕ) (r : Requested) → r ≡ requested_in a d → (b : Bool) → r.many ≡ b → bit_of d many_bit ≡ b
+pub many_of : (a d : List ℕ) (r : Asked) → r ≡ requested_in a d → (b : Bool) → r.many ≡ b → bit_of d many_bit ≡ b
 unfolding requested_in
-many_of a d r is b e = sym (ap (λ (s : Requested). s.many) is) ∙ e
+many_of a d r is b e = sym (ap (λ (s : Asked). s.many) is) ∙ e
 
-module _ (a d : List ℕ) (v : Vcpu) (fit : Fits v) (r : Requested) (is : r ≡ requested_in a d)
+module _ (a d : List ℕ) (v : Vcpu) (fit : Fits v) (r : Asked) (is : r ≡ requested_in a d)
     (below : r.posting.word < 8) where
   small : get_or d 0 0 < 256
   unfolding requested_in
@@ -210,12 +209,12 @@ module _ (a d : List ℕ) (v : Vcpu) (fit : Fits v) (r : Requested) (is : r ≡ 
 
   level_of_lem : r.level ≡ level_of a d
   unfolding requested_in
-  level_of_lem = ap (λ (s : Requested). s.level) is
+  level_of_lem = ap (λ (s : Asked). s.level) is
 
   pub one_is : r.many ≡ false → (added v r ≡ noticed (admits a d) v) × (counts v r ≡ items a d v)
   one_is e =
       let m = many_of a d r is false e in
-      let p : r.posting ≡ asked a d (named a d) = ap (λ (s : Requested). s.posting) is ∙ asks_one a d m in (
+      let p : r.posting ≡ asked a d (named a d) = ap (λ (s : Asked). s.posting) is ∙ asks_one a d m in (
         ap₂ (λ (q : Posting) (l : ℕ). request_added q l v) p level_of_lem ∙ one_added a d v fit small m,
         ap (λ (q : Posting). counts_of q (get_or v.irr q.word 0) v.nmi v.machine_check) p ∙ one_counts a d v fit small m,
       )
@@ -224,7 +223,7 @@ module _ (a d : List ℕ) (v : Vcpu) (fit : Fits v) (r : Requested) (is : r ≡ 
       → (marks_added e (added v r) ≡ noticed (admits a d) v) × (marks_counted (counts v r) e (added v r).irr ≡ items a d v)
   many_is t e f =
       let m = many_of a d r is true t in
-      let p : r.posting ≡ asked a d (levelled a d) = ap (λ (s : Requested). s.posting) is ∙ asks_many a d m in
+      let p : r.posting ≡ asked a d (levelled a d) = ap (λ (s : Asked). s.posting) is ∙ asks_many a d m in
       rw f (
         ap₂ (λ (q : Posting) (l : ℕ). marks_added (collect (admits_edge a d)) (request_added q l v)) p level_of_lem ∙ many_added a d v fit small m,
         ap (λ (q : Posting). marks_counted (counts_of q (get_or v.irr q.word 0) v.nmi v.machine_check) (collect (admits_edge a d))

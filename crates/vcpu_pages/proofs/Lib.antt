@@ -1,6 +1,6 @@
-pub mod PagesLaws
+pub mod Adds
 pub mod Joins
 pub mod Marked
-pub mod Adds
 pub mod NoticeLaws
+pub mod PagesLaws
 pub mod Steps

@@ -1,12 +1,12 @@
 -- A notice on one record, by what was taken from its page: its answer, record and page are what the model says. Assumes nothing.
-use mathlib.Core.Path.{◌≡◌, refl, sym, ap, ap₂, ◌∙◌}
+use mathlib.Core.Path.{◌≡◌, refl, ap, ap₂, ◌∙◌}
 use mathlib.Core.Bool.{Bool, true, false, cond}
 use mathlib.Core.List.{List}
 use Prim.Native.Nat.{ℕ, ◌<◌, ◌≤◌}
 use lib.Bits.{bit_or}
 use lib.ListN.{length}
 use borrow.Author.Tests.{leb-true}
-use Rattle.vector_set.specs.Bits.{one}
+use Rattle.std.specs.Prelude.{Option, None, Some, Ok, Err}
 use Rattle.vector_set.specs.Sets.{collect, union}
 use Rattle.vector_set.specs.Summaries.{summary_of}
 use Rattle.vector_set.proofs.Laws.{clash}
@@ -16,15 +16,13 @@ use Rattle.model.specs.declared.Vcpu.{Vcpu}
 use Rattle.model.specs.State.{is_active, with_irr, with_summary}
 use Rattle.model.specs.Doorbell.{bit_of, many_bit, announces, descriptor, long_enough, no_part, admits_edge, admits, admitted, noticed_page}
 use Rattle.model.specs.Events.{noticed, items_new}
-use Rattle.model.specs.Codes.{Verdict, accept, refuse, need, counted, admission_result}
-use Rattle.ipi.specs.declared.Counts.{Counts}
-use Rattle.descriptor.specs.Requests.{no_request, requested_in}
-use Rattle.doorbell.specs.declared.Taken.{Taken}
+use Rattle.model.specs.Codes.{Answered, Verdict, accept, refuse, need, counted}
+use Rattle.model.specs.declared.Counts.{Counts}
+use Rattle.descriptor.specs.Requests.{Asked, requested_in}
 use Rattle.doorbell.specs.Takes.{taken_from, taken_page}
 use Rattle.vcpu.specs.Notices.{marks_counted}
-use Rattle.vcpu.specs.Records.{VcpuOut, notice_on, page_on}
-use Rattle.vcpu_pages.specs.declared.NoticeTaken.{NoticeTaken}
-use Rattle.vcpu_pages.specs.Pages.{page_verdict, notice_verdict, unchanged, take_on}
+use Rattle.vcpu.specs.Records.{VcpuOut, notice_on, page_on, refused_out}
+use Rattle.vcpu_pages.specs.Pages.{page_verdict, notice_verdict, take_on}
 use Rattle.vcpu_pages.proofs.Adds.{Fits, added, counts, many_of, one_is, many_is, none_is}
 
 -- two verdicts differ
@@ -45,32 +43,32 @@ long_enough_lem true c p e = go (long_enough p) refl e
     go false e f = absurd (refused_not f)
 
 -- ---- what was taken at the VMPL l from the page p, under the set a, by the verdict g; q is the page after it
-module _ (l : ℕ) (a p q : List ℕ) (r : NoticeTaken) where
+module _ (l : ℕ) (a p q : List ℕ) (r : Answered (Option Asked)) where
   abbrev Took : Verdict → Type 0
   Took g = (r ≡ take_on g (taken_from l a p)) × (q ≡ page_on g (taken_page l p) p)
 
-  abbrev announcement : Bool → Taken
-  announcement b =
-      cond {A = Taken} b (record { announced = true; requested = requested_in a (descriptor l p) }) (record { announced = false; requested = no_request })
+  abbrev announcement : Bool → Option Asked
+  announcement b = cond {A = Option Asked} b (Some (requested_in a (descriptor l p))) None
 
-  -- something is asked for: the page announces it
-  pub record Asks (g : Verdict) : Type 0 where
+  -- x is asked for: the page announces it
+  pub record Asks (x : Asked) (g : Verdict) : Type 0 where
     pub accepts : g ≡ accept
     pub announcing : announces l p ≡ true
-    pub request : r.requested ≡ requested_in a (descriptor l p)
+    pub request : x ≡ requested_in a (descriptor l p)
     pub left : q ≡ taken_page l p
 
-  asks_by : (b : Bool) → announces l p ≡ b → r ≡ take_on accept (announcement b) → r.changes ≡ true
-      → (announces l p ≡ true) × (r.requested ≡ requested_in a (descriptor l p))
-  unfolding take_on
-  asks_by true n e t = (n, ap (λ (s : NoticeTaken). s.requested) e)
-  asks_by false n e t = clash (ap one (sym (ap (λ (s : NoticeTaken). s.changes) e) ∙ t))
+  module _ (x : Asked) where
+    asks_by : (b : Bool) → announces l p ≡ b → r ≡ take_on accept (announcement b) → r ≡ Ok (Some x)
+        → (announces l p ≡ true) × (x ≡ requested_in a (descriptor l p))
+    unfolding take_on
+    asks_by true n e t = (n, cc)
+    asks_by false n e t = clash (cc)
 
-  pub asks : (g : Verdict) → Took g → r.changes ≡ true → Asks g
-  unfolding take_on unchanged taken_from page_on
-  asks (refuse c) w t = clash (ap one (sym (ap (λ (s : NoticeTaken). s.changes) w.0) ∙ t))
-  asks accept w t =
-      let z = asks_by (announces l p) refl w.0 t in record { accepts = refl; announcing = z.0; request = z.1; left = w.1 }
+    pub asks : (g : Verdict) → Took g → r ≡ Ok (Some x) → Asks x g
+    unfolding take_on taken_from page_on
+    asks (refuse c) w t = clash (cc)
+    asks accept w t =
+        let z = asks_by (announces l p) refl w.0 t in record { accepts = refl; announcing = z.0; request = z.1; left = w.1 }
 
 -- ---- the page: cleared with the request, or once its marks are taken
 page_now : (l : ℕ) (p : List ℕ) → bit_of (descriptor l p) many_bit ≡ false → taken_page l p ≡ noticed_page l p
@@ -116,69 +114,73 @@ module _ (l : ℕ) (v : Vcpu) (p : List ℕ) where
       (ap₂ (λ (a : ℕ) (u : Vcpu). record { result = counted a 0; vcpu = u }) z.1 z.0
       ∙ ap (λ (b : ℕ). record { result = counted (items_new no_part v) b; vcpu = noticed no_part v }) z.2)
 
-  module _ (q : List ℕ) (r : NoticeTaken) where
+  module _ (q : List ℕ) (r : Answered (Option Asked)) where
+    -- what taking a notice says of its answer r and the page q after it
     abbrev pub Takes : Type 0
-    Takes =
-        (r ≡ take_on (notice_verdict v.phase p) (taken_from l v.allowed p))
-        × (r.requested.posting.word < 8)
-        × (q ≡ page_on (notice_verdict v.phase p) (taken_page l p) p)
+    Takes = Took l v.allowed p q r (notice_verdict v.phase p)
 
-    -- nothing changes
-    abbrev answered : VcpuOut
-    answered = record { result = admission_result r.admission; vcpu = v }
+    -- refused
+    refused_by : (g : Verdict) → Took l v.allowed p q r g → (c : Refusal) → r ≡ Err c → GivesBy g (refused_out c v) q
+    unfolding take_on notice_on page_on
+    refused_by (refuse d) w c e = (cc, w.1)
+    refused_by accept w c e = clash (cc)
+
+    pub record_refused : Takes → (c : Refusal) → r ≡ Err c → Gives (refused_out c v) q
+    record_refused w c e = refused_by (notice_verdict v.phase p) w c e
+
+    -- nothing is announced
+    abbrev unchanged : VcpuOut
+    unchanged = record { result = counted 0 0; vcpu = v }
 
     module _ (fit : Fits v) where
-      kept_accepted : (b : Bool) → announces l p ≡ b → r ≡ take_on accept (announcement l v.allowed p q r b) → q ≡ taken_page l p → r.changes ≡ false
-          → GivesBy accept answered q
+      kept_accepted : (b : Bool) → announces l p ≡ b → r ≡ take_on accept (announcement l v.allowed p q r b) → q ≡ taken_page l p → r ≡ Ok None
+          → GivesBy accept unchanged q
       unfolding take_on page_on
-      kept_accepted true n e f k = clash (ap one (sym k ∙ ap (λ (s : NoticeTaken). s.changes) e))
-      kept_accepted false n e f k = (
-        ap (λ (s : NoticeTaken). record { result = admission_result s.admission; vcpu = v }) e ∙ unannounced fit n,
-        f ∙ page_still l p n,
-      )
+      kept_accepted true n e f k = clash (cc)
+      kept_accepted false n e f k = (unannounced fit n, f ∙ page_still l p n)
 
-      kept_by : (g : Verdict) → Took l v.allowed p q r g → r.changes ≡ false → GivesBy g answered q
-      unfolding take_on unchanged taken_from notice_on page_on
-      kept_by (refuse c) w k = (ap (λ (s : NoticeTaken). record { result = admission_result s.admission; vcpu = v }) w.0, w.1)
+      kept_by : (g : Verdict) → Took l v.allowed p q r g → r ≡ Ok None → GivesBy g unchanged q
+      unfolding take_on taken_from notice_on page_on
+      kept_by (refuse c) w k = clash (cc)
       kept_by accept w k = kept_accepted (announces l p) refl w.0 w.1 k
 
-      pub record_kept : Takes → r.changes ≡ false → Gives answered q
-      record_kept w k = kept_by (notice_verdict v.phase p) (w.0, w.2) k
+      pub record_kept : Takes → r ≡ Ok None → Gives unchanged q
+      record_kept w k = kept_by (notice_verdict v.phase p) w k
 
-    -- something is asked for
-    module _ (w : Takes) (t : r.changes ≡ true) where
-      here : Asks l v.allowed p q r (notice_verdict v.phase p)
-      here = asks l v.allowed p q r (notice_verdict v.phase p) (w.0, w.2) t
+    -- x is asked for
+    module _ (w : Takes) (x : Asked) (t : r ≡ Ok (Some x)) where
+      here : Asks l v.allowed p q r x (notice_verdict v.phase p)
+      here = asks l v.allowed p q r x (notice_verdict v.phase p) w t
 
-      many_bit_lem : (b : Bool) → r.requested.many ≡ b → bit_of (descriptor l p) many_bit ≡ b
-      many_bit_lem b f = many_of v.allowed (descriptor l p) r.requested here.request b f
+      many_bit_lem : (b : Bool) → x.many ≡ b → bit_of (descriptor l p) many_bit ≡ b
+      many_bit_lem b f = many_of v.allowed (descriptor l p) x here.request b f
 
-      pub record_one : Fits v → r.requested.many ≡ false → (c : Counts) → c ≡ counts v r.requested
-          → Gives (changed c (added v r.requested)) q
+      pub record_one : x.posting.word < 8 → Fits v → x.many ≡ false → (c : Counts) → c ≡ counts v x
+          → Gives (changed c (added v x)) q
       unfolding notice_on
-      record_one fit f c e =
-          let z = one_is v.allowed (descriptor l p) v fit r.requested here.request w.1 f in
+      record_one below fit f c e =
+          let z = one_is v.allowed (descriptor l p) v fit x here.request below f in
           gives_asked (notice_verdict v.phase p) here.accepts here.announcing (ap₂ changed (e ∙ z.1) z.0)
           (here.left ∙ page_now l p (many_bit_lem false f))
 
       -- its marks are still to be taken
-      module _ (f : r.requested.many ≡ true) where
+      module _ (f : x.many ≡ true) where
         same_page : q ≡ p
         same_page = here.left ∙ page_later l p (many_bit_lem true f)
 
         pub still_asks : (256 ≤ length q) × (announces l q ≡ true) × (bit_of (descriptor l q) many_bit ≡ true)
-            × (r.requested ≡ requested_in v.allowed (descriptor l q))
+            × (x ≡ requested_in v.allowed (descriptor l q))
         still_asks =
             rw same_page (long_enough_lem (is_active v.phase) NotActive p here.accepts, here.announcing, many_bit_lem true f, here.request)
 
-        pub record_many : Fits v → (e z : List ℕ) → e ≡ collect (admits_edge v.allowed (descriptor l q))
-            → z ≡ noticed_page l q → (c : Counts) → c ≡ marks_counted (counts v r.requested) e (added v r.requested).irr
-            → (s : List ℕ) → s ≡ union (added v r.requested).irr e
-            → (x : ℕ) → x ≡ bit_or (added v r.requested).summary (summary_of e) → Gives (changed c (with_summary x (with_irr s (added v r.requested)))) z
+        pub record_many : x.posting.word < 8 → Fits v → (e z : List ℕ) → e ≡ collect (admits_edge v.allowed (descriptor l q))
+            → z ≡ noticed_page l q → (c : Counts) → c ≡ marks_counted (counts v x) e (added v x).irr
+            → (s : List ℕ) → s ≡ union (added v x).irr e
+            → (y : ℕ) → y ≡ bit_or (added v x).summary (summary_of e) → Gives (changed c (with_summary y (with_irr s (added v x)))) z
         unfolding notice_on
-        record_many fit e z g h c k s j x u =
+        record_many below fit e z g h c k s j y u =
             let d = g ∙ ap (λ (y : List ℕ). collect (admits_edge v.allowed (descriptor l y))) same_page in
-            let y = many_is v.allowed (descriptor l p) v fit r.requested here.request w.1 f e d in
+            let o = many_is v.allowed (descriptor l p) v fit x here.request below f e d in
             gives_asked (notice_verdict v.phase p) here.accepts here.announcing
-            (ap₂ changed (k ∙ y.1) (ap₂ (λ (s : List ℕ) (x : ℕ). with_summary x (with_irr s (added v r.requested))) j u ∙ y.0))
+            (ap₂ changed (k ∙ o.1) (ap₂ (λ (s : List ℕ) (y : ℕ). with_summary y (with_irr s (added v x))) j u ∙ o.0))
             (h ∙ ap (noticed_page l) same_page)

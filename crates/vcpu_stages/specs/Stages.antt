@@ -1,6 +1,6 @@
 -- An entry as code goes about it: what it answers by the verdict, before it looks at P and then, and what it changes of a record (section 8).
 -- Assumes nothing.
-use Rattle.std.specs.Prelude.{Bool, true, false, cond, not, ◌&&◌, ◌||◌, ℕ, ◌-◌, ◌/◌, ◌%◌, ◌^◌, eqb}
+use Rattle.std.specs.Prelude.{Option, None, Some, Ok, Err, Bool, true, false, cond, not, ◌&&◌, ◌||◌, ℕ, ◌-◌, ◌/◌, ◌%◌, ◌^◌, eqb}
 use Rattle.std.specs.Int.Bits.{bit_and, bit_or}
 use Rattle.vector_set.specs.Bits.{bit_at, bits}
 use Rattle.vector_set.specs.Sets.{highest}
@@ -8,11 +8,11 @@ use Rattle.vector_set.specs.Summaries.{in_marked}
 use Rattle.model.specs.declared.InFlight.TheVariants as flight
 use Rattle.model.specs.declared.Item.TheVariants as item
 use Rattle.model.specs.declared.Presentation.{Presentation}
-use Rattle.model.specs.declared.Presentation.TheVariants.{Nothing, Nmi, MachineCheck, Vector, Window, Refused}
+use Rattle.model.specs.declared.Presentation.TheVariants.{Nothing, Nmi, MachineCheck, Vector, Window}
 use Rattle.model.specs.declared.Refusal.TheVariants.{NotActive}
 use Rattle.model.specs.declared.Vcpu.{Vcpu}
 use Rattle.model.specs.State.{is_active, is_in_flight, with_nmi, with_machine_check, with_flight}
-use Rattle.model.specs.Codes.{code_of, Verdict, accept, refuse, Answer, nothing, presents, window, Result, answers, refused}
+use Rattle.model.specs.Codes.{code_of, Answered, Verdict, accept, refuse, Answer, nothing, presents, window, Result, answers, refused}
 use Rattle.model.specs.Registers.{ppr}
 use Rattle.model.specs.Events.{offer_highest}
 use Rattle.vcpu_stages.specs.declared.words.Marks.{Marks}
@@ -33,10 +33,10 @@ shown (presents item.MachineCheck) = MachineCheck
 shown (presents (item.Vector x)) = Vector x
 shown (window x) = Window x
 
--- what an entry answers without a look at P; `Nothing` where P decides (8.2, 8.6, 8.7, 8.17, 8.18)
-unfoldable pub answer_before : Bool → Bool → Vcpu → Presentation
+-- what an entry answers without a look at P; `None` where P decides (8.2, 8.6, 8.7, 8.17, 8.18)
+unfoldable pub answer_before : Bool → Bool → Vcpu → Answered (Option Presentation)
 answer_before sh bl v =
-    cond (is_active v.phase) (cond v.machine_check MachineCheck (cond (v.nmi && not (sh || bl)) Nmi Nothing)) (Refused NotActive)
+    cond (is_active v.phase) (Ok (cond v.machine_check (Some MachineCheck) (cond (v.nmi && not (sh || bl)) (Some Nmi) None))) (Err NotActive)
 
 -- what P decides, once there is no mark to be presented (8.8 to 8.13, 8.20)
 unfoldable pub vector_offer : Bool → Vcpu → Answer
@@ -48,17 +48,28 @@ rests_on v = is_active v.phase && not (is_in_flight v.flight) && eqb v.summary 0
 
 -- ---- what is stored
 -- the marks and what is in flight after an entry that presents no vector (8.3, 8.6, 8.14, 8.15, 8.17)
-unfoldable pub marks_after : Presentation → Vcpu → Marks
-marks_after Nothing v = record { changes = is_in_flight v.flight; nmi = v.nmi; machine_check = v.machine_check; flight = flight.Nothing }
-marks_after Nmi v = record { changes = true; nmi = false; machine_check = v.machine_check; flight = flight.Nmi }
-marks_after MachineCheck v = record { changes = true; nmi = v.nmi; machine_check = false; flight = flight.MachineCheck }
-marks_after (Vector x) v = record { changes = is_in_flight v.flight; nmi = v.nmi; machine_check = v.machine_check; flight = flight.Nothing }
-marks_after (Window x) v = record { changes = is_in_flight v.flight; nmi = v.nmi; machine_check = v.machine_check; flight = flight.Nothing }
-marks_after (Refused c) v = record { changes = false; nmi = v.nmi; machine_check = v.machine_check; flight = v.flight }
+abbrev pub marks_of : Presentation → Vcpu → Marks
+marks_of Nothing v = record { nmi = v.nmi; machine_check = v.machine_check; flight = flight.Nothing }
+marks_of Nmi v = record { nmi = false; machine_check = v.machine_check; flight = flight.Nmi }
+marks_of MachineCheck v = record { nmi = v.nmi; machine_check = false; flight = flight.MachineCheck }
+marks_of (Vector x) v = record { nmi = v.nmi; machine_check = v.machine_check; flight = flight.Nothing }
+marks_of (Window x) v = record { nmi = v.nmi; machine_check = v.machine_check; flight = flight.Nothing }
+
+-- one of them changes: a mark is presented, or something was in flight
+abbrev pub marks_change : Presentation → Vcpu → Bool
+marks_change Nothing v = is_in_flight v.flight
+marks_change Nmi v = true
+marks_change MachineCheck v = true
+marks_change (Vector x) v = is_in_flight v.flight
+marks_change (Window x) v = is_in_flight v.flight
+
+-- what is stored of them, if anything
+unfoldable pub marks_after : Presentation → Vcpu → Option Marks
+marks_after p v = cond (marks_change p v) (Some (marks_of p v)) None
 
 -- the record with them
 abbrev pub settled : Presentation → Vcpu → Vcpu
-settled p v = with_flight (marks_after p v).flight (with_machine_check (marks_after p v).machine_check (with_nmi (marks_after p v).nmi v))
+settled p v = with_flight (marks_of p v).flight (with_machine_check (marks_of p v).machine_check (with_nmi (marks_of p v).nmi v))
 
 -- the bit of the vector x in its word, and all others
 abbrev pub bit_of : ℕ → ℕ

@@ -1,14 +1,13 @@
 // What an entry changes of a record, as it is stored in place: marks and what is in flight, or the words of one vector.
-ghost use Rattle.std.specs.Prelude.{◌≡◌, ◌/◌};
-ghost use Rattle.model.specs.State.{is_in_flight};
+ghost use Rattle.std.specs.Prelude.{◌≡◌};
 ghost use Rattle.vcpu_stages.specs.Stages.{marks_after, words_after, level_words_after};
 
 use model::{InFlight, Presentation, Vcpu};
+use vector_set::{bit_of, word_of};
 
-// The marks and what is in flight after an entry that presents no vector, and whether one of them changes.
+// The marks and what is in flight after an entry that presents no vector.
 #[derive(Clone, Copy)]
 pub struct Marks {
-    pub changes: bool,
     pub nmi: bool,
     pub machine_check: bool,
     pub flight: InFlight,
@@ -29,54 +28,30 @@ pub struct LevelWords {
     pub isr_level: u32,
 }
 
-fn is_something(flight: InFlight) -> bool
-    ensures { result ≡ is_in_flight flight }
-{
-    match flight {
-        InFlight::Nothing => false,
-        _ => true,
-    }
-}
-
-// An entry that presents no vector, but may have presented the NMI or the machine check (8.3, 8.6, 8.14, 8.15, 8.17).
+// An entry that presents no vector, but may have presented the NMI or the machine check; `None` where it changes nothing (8.3, 8.6, 8.14, 8.15, 8.17).
 #[tactic(auto, unfolding(crate::specs::Stages::marks_after))]
-pub fn marks_after(v: Vcpu, presentation: Presentation) -> Marks
+pub fn marks_after(v: Vcpu, presentation: Presentation) -> Option<Marks>
     ensures { result ≡ marks_after presentation v }
 {
-    let flight = v.flight;
-    match presentation {
-        Presentation::Nmi => Marks {
-            changes: true,
+    let marks = Marks {
+        nmi: v.nmi,
+        machine_check: v.machine_check,
+        flight: InFlight::Nothing,
+    };
+    match (presentation, v.flight) {
+        (Presentation::Nmi, _) => Some(Marks {
             nmi: false,
-            machine_check: v.machine_check,
             flight: InFlight::Nmi,
-        },
-        Presentation::MachineCheck => Marks {
-            changes: true,
-            nmi: v.nmi,
+            ..marks
+        }),
+        (Presentation::MachineCheck, _) => Some(Marks {
             machine_check: false,
             flight: InFlight::MachineCheck,
-        },
-        Presentation::Refused(_) => Marks {
-            changes: false,
-            nmi: v.nmi,
-            machine_check: v.machine_check,
-            flight,
-        },
-        _ => Marks {
-            changes: is_something(flight),
-            nmi: v.nmi,
-            machine_check: v.machine_check,
-            flight: InFlight::Nothing,
-        },
+            ..marks
+        }),
+        (_, InFlight::Nothing) => None,
+        _ => Some(marks),
     }
-}
-
-// The word of a vector in a set (2.17).
-pub fn word_of(x: u8) -> usize
-    ensures { result ≡ x / 32 }
-{
-    (x / 32) as usize
 }
 
 // The vector x leaves its word of P for that of S (8.11).
@@ -84,11 +59,10 @@ pub fn word_of(x: u8) -> usize
 pub fn words_after(x: u8, irr: u32, isr: u32, summary: u8) -> Words
     ensures { result ≡ words_after x irr isr summary }
 {
-    let bit: u32 = 1 << (x % 32) as u32;
-    let left = irr & !bit;
+    let left = irr & !bit_of(x);
     Words {
         irr: left,
-        isr: isr | bit,
+        isr: isr | bit_of(x),
         summary: vector_set_search::with_word(summary, word_of(x), left),
     }
 }
@@ -98,9 +72,8 @@ pub fn words_after(x: u8, irr: u32, isr: u32, summary: u8) -> Words
 pub fn level_words_after(x: u8, irr_level: u32, isr_level: u32) -> LevelWords
     ensures { result ≡ level_words_after x irr_level isr_level }
 {
-    let bit: u32 = 1 << (x % 32) as u32;
     LevelWords {
-        irr_level: irr_level & !bit,
-        isr_level: isr_level | (irr_level & bit),
+        irr_level: irr_level & !bit_of(x),
+        isr_level: isr_level | (irr_level & bit_of(x)),
     }
 }

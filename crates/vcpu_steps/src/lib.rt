@@ -8,38 +8,28 @@ ghost use Rattle.model.specs.Registers.{ended, ended_level};
 ghost use Rattle.model.specs.Requests.{leave_if};
 
 use model::{Phase, Vcpu};
-use vcpu::records;
-use vector_set::Found;
+use vcpu::{VcpuStepped, records};
 
-// The number that an EOI gives, and the record after it.
-#[derive(Drop)]
-pub struct Ended {
-    pub value: u64,
-    pub vcpu: Vcpu,
-}
-
-// The highest vector in service ends; the value names it if it was level-sensitive (6.25 to 6.28).
-pub fn end_vcpu(v: Vcpu) -> Ended
-    ensures { result ≡ record { value = ended_level v; vcpu = ended v } }
+// The highest vector in service ends; the answer names it if it was level-sensitive (6.25 to 6.28).
+#[tactic(auto, unfolding(model::specs::Registers::ended, model::specs::Registers::ended_at, model::specs::Registers::ended_level, model::specs::Registers::ended_level_at))]
+pub fn end_vcpu(v: Vcpu) -> VcpuStepped<u64>
+    ensures { result ≡ record { answer = ended_level v; vcpu = ended v } }
 {
-    let isr = v.isr;
-    let isr_level = v.isr_level;
-    let found = vector_set_search::highest_of(isr).found;
-    let Found::Vector(x) = found else {
-        return Ended { value: 0, vcpu: v };
+    let Some(x) = vector_set_search::highest_of(v.isr).found else {
+        return VcpuStepped { answer: 0, vcpu: v };
     };
-    let service = vector_set::remove(isr, x);
-    let service_level = vector_set::remove(isr_level, x);
-    let mut w = v;
-    w.isr = service;
-    w.isr_level = service_level;
-    if vector_set::contains(isr_level, x) {
-        return Ended {
-            value: x as u64,
-            vcpu: w,
+    let vcpu = Vcpu {
+        isr: vector_set::remove(v.isr, x),
+        isr_level: vector_set::remove(v.isr_level, x),
+        ..v
+    };
+    if vector_set::contains(v.isr_level, x) {
+        return VcpuStepped {
+            answer: u64::from(x),
+            vcpu,
         };
     }
-    Ended { value: 0, vcpu: w }
+    VcpuStepped { answer: 0, vcpu }
 }
 
 // The vCPU is leaving where the count is 0 (5.8).
@@ -56,32 +46,23 @@ pub fn leave_at(v: Vcpu, registrations: u8) -> Vcpu
 pub fn released(registrations: u8) -> u8
     ensures { result ≡ registrations - 1 }
 {
-    if registrations == 0 {
-        return 0;
-    }
-    registrations - 1
+    registrations.saturating_sub(1)
 }
 
 // The vector is allowed, or no longer (5.16, 5.19).
 pub fn permit(v: Vcpu, x: u8, allow: bool) -> Vcpu
     ensures { result ≡ with_allowed (cond allow (insert x v.allowed) (remove x v.allowed)) v }
 {
-    let allowed = v.allowed;
-    let mut w = v;
-    if allow {
-        let more = vector_set::insert(allowed, x);
-        w.allowed = more;
-        return w;
-    }
-    let less = vector_set::remove(allowed, x);
-    w.allowed = less;
-    w
+    let allowed = if allow {
+        vector_set::insert(v.allowed, x)
+    } else {
+        vector_set::remove(v.allowed, x)
+    };
+    Vcpu { allowed, ..v }
 }
 
 pub fn set_tpr(v: Vcpu, x: u8) -> Vcpu
     ensures { result ≡ with_tpr x v }
 {
-    let mut w = v;
-    w.tpr = x;
-    w
+    Vcpu { tpr: x, ..v }
 }

@@ -3,7 +3,7 @@
 use mathlib.Core.Path.{◌≡◌, refl}
 use mathlib.Core.Bool.{true, false}
 use mathlib.Core.List.{List, [], ◌∷◌}
-use mathlib.Core.Option.{none, some}
+use Rattle.std.specs.Prelude.{None, Some}
 use Prim.Native.Nat.{ℕ}
 use Rattle.vector_set.specs.Bits.{bits}
 use Rattle.vector_set.specs.Sets.{has, words, collect, empty, full, insert, remove, union, difference, intersection, from, highest_below}
@@ -37,11 +37,11 @@ joined : difference (union three (insert 0xFF empty)) (intersection three (inser
 unfolding three insert union difference intersection empty collect words bits has
 joined = refl
 
-highest_three : highest three ≡ some 0x41
+highest_three : highest three ≡ Some 0x41
 unfolding three highest highest_below has
 highest_three = refl
 
-highest_empty : highest empty ≡ none
+highest_empty : highest empty ≡ None
 unfolding empty collect words bits highest highest_below has
 highest_empty = refl
 

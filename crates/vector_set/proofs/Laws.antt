@@ -3,7 +3,7 @@
 use mathlib.Core.Path.{◌≡◌, refl, sym, ap, ◌∙◌, subst}
 use mathlib.Core.Bool.{Bool, true, false, cond, not, ◌&&◌, ◌||◌}
 use mathlib.Core.List.{List}
-use mathlib.Core.Option.{Option, none, some}
+use Rattle.std.specs.Prelude.{Option, None, Some, is_none}
 use Prim.Native.Nat.{ℕ, zero, suc, ◌+◌, ◌*◌, ◌/◌, ◌%◌, ◌<◌, ◌≤◌}
 use native.Mathlib.Omega.{arith}
 use native.Mathlib.Nat.{not-suc-le-zero, le_of_suc-le-suc}
@@ -14,8 +14,8 @@ use borrow.Author.Tests.{eqb-true, eqb-false}
 use Rattle.vector_set.specs.Bits.{bit_at, bits}
 pub use Rattle.vector_set.specs.Sets.{Words}
 pub use Rattle.vector_set.proofs.BitLaws.{clash, one_eqb, one_le, bits_at, bits_bit, bits_lt, bits_ext, number_ext, bits_unique}
-use Rattle.vector_set.specs.Sets.{has, words, collect, empty, full, insert, remove, union, difference, intersection, from, highest_below}
-use Rattle.vector_set.specs.Sets.{highest, count_below, count, is_none, is_empty, word_of}
+use Rattle.vector_set.specs.Sets.{has, words, collect, empty, full, insert, remove, difference, intersection, from, highest_below}
+use Rattle.vector_set.specs.Sets.{highest, count_below, count, is_empty, word_of}
 
 pub words_at : (f : ℕ → Bool) (k n i : ℕ) → i < n → get_or (words f k n) i 0 ≡ bits f (32 * (k + i)) 32
 unfolding words
@@ -96,10 +96,6 @@ pub has_remove : (x : ℕ) (s : List ℕ) (v : ℕ) → v < 256 → has (remove 
 unfolding remove
 has_remove x s v h = has_collect (λ v. not (eqb v x) && has s v) v h
 
-pub has_union : (s t : List ℕ) (v : ℕ) → v < 256 → has (union s t) v ≡ (has s v || has t v)
-unfolding union
-has_union s t v h = has_collect (λ v. has s v || has t v) v h
-
 pub has_difference : (s t : List ℕ) (v : ℕ) → v < 256 → has (difference s t) v ≡ (has s v && not (has t v))
 unfolding difference
 has_difference s t v h = has_collect (λ v. has s v && not (has t v)) v h
@@ -138,65 +134,65 @@ step P n p h v l = go (eqb v n) refl
     go true e = subst P (sym (eqb-true v n e)) p
     go false e = let d : v ≡ n → ⊥ = eqb-false v n e in h v (omega arith)
 
-below_none : (s : List ℕ) (n : ℕ) → highest_below s n ≡ none → (v : ℕ) → v < n → has s v ≡ false
+below_none : (s : List ℕ) (n : ℕ) → highest_below s n ≡ None → (v : ℕ) → v < n → has s v ≡ false
 unfolding highest_below
 below_none s zero e = λ v l. absurd (not-suc-le-zero l)
 below_none s (suc n) e = go (has s n) refl e (λ q. below_none s n q)
   where
-    go : (b : Bool) → has s n ≡ b → cond b (some n) (highest_below s n) ≡ none → (highest_below s n ≡ none → (v : ℕ) → v < n → has s v ≡ false)
+    go : (b : Bool) → has s n ≡ b → cond b (Some n) (highest_below s n) ≡ None → (highest_below s n ≡ None → (v : ℕ) → v < n → has s v ≡ false)
         → (v : ℕ) → v < suc n → has s v ≡ false
     go true p q ih = clash (cc)
     go false p q ih = step (λ (v : ℕ). has s v ≡ false) n p (ih q)
 
 -- what is found is a member below n, and none between is
-below_found : (s : List ℕ) (n v : ℕ) → highest_below s n ≡ some v → (has s v ≡ true) × (v < n) × ((w : ℕ) → w < n → v < w → has s w ≡ false)
+below_found : (s : List ℕ) (n v : ℕ) → highest_below s n ≡ Some v → (has s v ≡ true) × (v < n) × ((w : ℕ) → w < n → v < w → has s w ≡ false)
 unfolding highest_below
 below_found s zero v e = clash (cc)
 below_found s (suc n) v e = go (has s n) refl e (λ q. below_found s n v q)
   where
-    go : (b : Bool) → has s n ≡ b → cond b (some n) (highest_below s n) ≡ some v
-        → (highest_below s n ≡ some v → (has s v ≡ true) × (v < n) × ((w : ℕ) → w < n → v < w → has s w ≡ false))
+    go : (b : Bool) → has s n ≡ b → cond b (Some n) (highest_below s n) ≡ Some v
+        → (highest_below s n ≡ Some v → (has s v ≡ true) × (v < n) × ((w : ℕ) → w < n → v < w → has s w ≡ false))
         → (has s v ≡ true) × (v < suc n) × ((w : ℕ) → w < suc n → v < w → has s w ≡ false)
     go true p q ih = let d : n ≡ v = cc in (rw (← d) p, omega arith, λ w l g. let z : ⊥ = omega arith in absurd z)
     go false p q ih = let r = ih q in (r.0, omega arith, step (λ (w : ℕ). v < w → has s w ≡ false) n (λ g. p) r.2)
 
-below_is : (s : List ℕ) (n v : ℕ) → v < n → has s v ≡ true → ((w : ℕ) → w < n → v < w → has s w ≡ false) → highest_below s n ≡ some v
+below_is : (s : List ℕ) (n v : ℕ) → v < n → has s v ≡ true → ((w : ℕ) → w < n → v < w → has s w ≡ false) → highest_below s n ≡ Some v
 unfolding highest_below
 below_is s zero v l p h = absurd (not-suc-le-zero l)
 below_is s (suc n) v l p h = go (eqb v n) refl (λ m. below_is s n v m p (λ w k g. h w (omega arith) g))
   where
-    go : (b : Bool) → eqb v n ≡ b → (v < n → highest_below s n ≡ some v) → cond (has s n) (some n) (highest_below s n) ≡ some v
+    go : (b : Bool) → eqb v n ≡ b → (v < n → highest_below s n ≡ Some v) → cond (has s n) (Some n) (highest_below s n) ≡ Some v
     go true e ih = let d : v ≡ n = eqb-true v n e in let t : has s n ≡ true = rw (← d) p in rw (t, d)
     go false e ih =
         let d : v ≡ n → ⊥ = eqb-false v n e in
         let t : has s n ≡ false = h n (omega arith) (omega arith) in
         rw t (ih (omega arith))
 
-below_no : (s : List ℕ) (n : ℕ) → ((v : ℕ) → v < n → has s v ≡ false) → highest_below s n ≡ none
+below_no : (s : List ℕ) (n : ℕ) → ((v : ℕ) → v < n → has s v ≡ false) → highest_below s n ≡ None
 unfolding highest_below
 below_no s zero h = refl
 below_no s (suc n) h = let t : has s n ≡ false = h n (omega arith) in rw t (below_no s n (λ v l. h v (omega arith)))
 
 -- the highest is a member
-pub highest_has : (s : List ℕ) (v : ℕ) → highest s ≡ some v → (has s v ≡ true) × (v < 256)
+pub highest_has : (s : List ℕ) (v : ℕ) → highest s ≡ Some v → (has s v ≡ true) × (v < 256)
 unfolding highest
 highest_has s v e = let r = below_found s _ v e in let l : v < 256 = omega arith in (r.0, l)
 
 -- no member is above the highest
-pub highest_above : (s : List ℕ) (v : ℕ) → highest s ≡ some v → (w : ℕ) → w < 256 → v < w → has s w ≡ false
+pub highest_above : (s : List ℕ) (v : ℕ) → highest s ≡ Some v → (w : ℕ) → w < 256 → v < w → has s w ≡ false
 unfolding highest
 highest_above s v e w l g = (below_found s _ v e).2 w (omega arith) g
 
-pub highest_none : (s : List ℕ) → highest s ≡ none → (v : ℕ) → v < 256 → has s v ≡ false
+pub highest_none : (s : List ℕ) → highest s ≡ None → (v : ℕ) → v < 256 → has s v ≡ false
 unfolding highest
 highest_none s e v l = below_none s _ e v (omega arith)
 
 -- a member with none above it is the highest
-pub highest_is : (s : List ℕ) (v : ℕ) → v < 256 → has s v ≡ true → ((w : ℕ) → w < 256 → v < w → has s w ≡ false) → highest s ≡ some v
+pub highest_is : (s : List ℕ) (v : ℕ) → v < 256 → has s v ≡ true → ((w : ℕ) → w < 256 → v < w → has s w ≡ false) → highest s ≡ Some v
 unfolding highest
 highest_is s v l p h = below_is s 256 v l p h
 
-pub highest_no : (s : List ℕ) → ((v : ℕ) → v < 256 → has s v ≡ false) → highest s ≡ none
+pub highest_no : (s : List ℕ) → ((v : ℕ) → v < 256 → has s v ≡ false) → highest s ≡ None
 unfolding highest
 highest_no s h = below_no s 256 h
 
@@ -206,11 +202,11 @@ unfolding is_empty
 is_empty_has s e = go (highest s) refl e
   where
     go : (o : Option ℕ) → highest s ≡ o → is_none o ≡ true → (v : ℕ) → v < 256 → has s v ≡ false
-    go none p q = highest_none s p
-    go (some w) p q = clash (cc)
+    go None p q = highest_none s p
+    go (Some w) p q = clash (cc)
 
 -- ---- the number of members
-below_le : (s : List ℕ) (n : ℕ) → count_below s n ≤ n
+pub below_le : (s : List ℕ) (n : ℕ) → count_below s n ≤ n
 unfolding count_below
 below_le s zero = omega arith
 below_le s (suc n) = let a = below_le s n in let b = one_le (has s n) in omega arith

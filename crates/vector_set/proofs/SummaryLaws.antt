@@ -3,7 +3,7 @@
 use mathlib.Core.Path.{◌≡◌, refl, sym, ap, ◌∙◌}
 use mathlib.Core.Bool.{Bool, true, false, cond, not, ◌&&◌, ◌||◌}
 use mathlib.Core.List.{List}
-use mathlib.Core.Option.{some}
+use Rattle.std.specs.Prelude.{Some}
 use Prim.Native.Nat.{ℕ, ◌+◌, ◌*◌, ◌/◌, ◌%◌, ◌^◌, ◌<◌}
 use native.Mathlib.Omega.{arith}
 use lib.Bits.{bit_or, or_lt}
@@ -52,7 +52,7 @@ unfolding summary_of
 summary_bit s k l = bits_bit (holds s) 0 8 k l ∙ (let e : 0 + k ≡ k = omega arith in ap (holds s) e)
 
 -- ---- what a marked word leaves to see
-pub marked_has : (b : ℕ) (s : List ℕ) (v : ℕ) → highest (in_marked b s) ≡ some v → (has s v ≡ true) × (v < 256)
+pub marked_has : (b : ℕ) (s : List ℕ) (v : ℕ) → highest (in_marked b s) ≡ Some v → (has s v ≡ true) × (v < 256)
 unfolding in_marked
 marked_has b s v e =
     let h = highest_has (collect (λ x. bit_at b (x / 32) && has s x)) v e in
@@ -117,7 +117,7 @@ remade_joined f s b small = sym (bits_unique _ 0 8 (bit_or b (summary_of (collec
         go : (c : Bool) → holds t k ≡ c → c ≡ true
         go true e = refl
         go false e =
-            let none : holds (collect f) k ≡ false =
+            let None : holds (collect f) k ≡ false =
             none_held (collect f) k (collect_words f) l (λ v m d. has_collect f v m ∙ left (f v) (has s v)
             (sym (has_collect (λ v. f v || has s v) v m) ∙ not_held t v (ap (holds t) d ∙ e))) in
             clash (cc)

@@ -3,16 +3,16 @@
 use mathlib.Core.Path.{◌≡◌, refl, sym, ap, ap₂, ◌∙◌}
 use mathlib.Core.Bool.{Bool, true, false, not, ◌&&◌, ◌||◌, and_comm, or_comm}
 use mathlib.Core.List.{List, [], ◌∷◌}
-use mathlib.Core.Option.{some}
+use Rattle.std.specs.Prelude.{Some}
 use Prim.Native.Nat.{ℕ, zero, suc, ◌+◌, ◌-◌, ◌*◌, ◌/◌, ◌%◌, ◌^◌, ◌<◌, ◌≤◌}
 use native.Mathlib.Omega.{arith}
-use native.Mathlib.Nat.{mod-one, mod-lt, mod-eq_of_lt}
+use native.Mathlib.Nat.{mod-one, mod-lt, mod-eq_of_lt, pow-succ'}
 use lib.Dec.{T as Holds, eqb, leb, ltb, lit<}
 use lib.Bits.{bit_and, bit_or, and_lt, or_lt}
 use lib.ListN.{get_or, set, length-set}
 use lib.Seq.{ext_get_or, get_or-set_same, get_or-set_other}
 use lib.Pow.{pow_pos, pow-lt, shl_exact, mod-pow-add, ones_sub-lt}
-use lib.Count.{ones, ones_cat, count_leading_zeros, leading_top}
+use lib.Count.{ones, ones_cat}
 use mir.Syntax.{w32}
 use mir.Val.{Val}
 use denote.Laws.{Is}
@@ -23,7 +23,7 @@ use borrow.Author.Tests.{ltb-true, ltb-false, eqb-true, eqb-false, eq-eqb, ne_eq
 use Rattle.vector_set.specs.Bits.{one, bit_at, bits}
 use Rattle.vector_set.proofs.BitLaws.{bits_unique, bit_number, bit_above, bit_top, bit_zero, bit_and_lem, bit_or_lem, bit_not, bit_pow}
 use Rattle.vector_set.specs.Sets.{has, words, collect, insert, remove, union, difference, intersection, from, highest, count_below}
-use Rattle.vector_set.proofs.Laws.{Words, has_word, words_at, collect_words, highest_is}
+use Rattle.vector_set.proofs.Laws.{Words, has_word, words_at, collect_words, collect_is, highest_is}
 
 -- ---- arrays of the code
 -- an array [u32; 8] of a parameter or of its fields (`c.well_formed`), or of a call's result (`.type_inv`), is eight words
@@ -34,7 +34,7 @@ array_words s vs p = record { eight = p.1.0.1; small = λ i l. (elem_Fits w32 w3
 pub at : {A : Type 0} {k : ℕ} → Holds (ltb k 8) → A → k < 8
 at t c = lit< t
 
--- ---- eight words written out
+-- ---- word by word
 -- g k, g (k + 1) and so on, n of them
 abbrev pub upto : (ℕ → ℕ) → ℕ → ℕ → List ℕ
 upto g k zero = []
@@ -51,14 +51,15 @@ pub wordwise : (g : ℕ → ℕ) (f : ℕ → Bool) → ((k : ℕ) → k < 8 →
 unfolding collect
 wordwise g f small h = upto_words g f 0 8 (λ k l. bits_unique f (32 * k) 32 (g k) (small k l) (λ b r. h k b l r))
 
--- an operation on the bits of two words, done on eight pairs of words
-pub wordwise₂ : (op : ℕ → ℕ → ℕ) (o : Bool → Bool → Bool) → ((x y : ℕ) → x < 2 ^ 32 → y < 2 ^ 32 → op x y < 2 ^ 32)
-    → ((x y b : ℕ) → x < 2 ^ 32 → y < 2 ^ 32 → b < 32 → bit_at (op x y) b ≡ o (bit_at x b) (bit_at y b))
-    → (s t : List ℕ) → Words s → Words t → upto (λ k. op (get_or s k 0) (get_or t k 0)) 0 8 ≡ collect (λ v. o (has s v) (has t v))
-wordwise₂ op o small bit s t ws wt =
-    wordwise (λ k. op (get_or s k 0) (get_or t k 0)) (λ v. o (has s v) (has t v))
-    (λ k l. small (get_or s k 0) (get_or t k 0) (ws.small k l) (wt.small k l))
-    (λ k b l r. bit (get_or s k 0) (get_or t k 0) b (ws.small k l) (wt.small k l) r ∙ ap₂ o (sym (has_word s k b r)) (sym (has_word t k b r)))
+-- an operation on the bits of two words, done on each pair of words
+pub wordwise₂ : (op : ℕ → ℕ → ℕ) (o : Bool → Bool → Bool)
+    → ((x y b : ℕ) → y < 2 ^ 32 → b < 32 → bit_at (op x y) b ≡ o (bit_at x b) (bit_at y b))
+    → (s t r : List ℕ) → Words t → Words r → ((k : ℕ) → k < 8 → get_or r k 0 ≡ op (get_or s k 0) (get_or t k 0)) → r ≡ collect (λ v. o (has s v) (has t v))
+unfolding has
+wordwise₂ op o bit s t r wt wr each =
+    collect_is (λ v. o (has s v) (has t v)) r wr
+    (λ v l. ap (λ (x : ℕ). bit_at x (v % 32)) (each (v / 32) (omega arith))
+    ∙ bit (get_or s (v / 32) 0) (get_or t (v / 32) 0) (v % 32) (wt.small (v / 32) (omega arith)) (omega arith))
 
 -- ---- one word stored
 eqb_same : (v b : ℕ) → b < 32 → eqb (32 * (v / 32) + b) v ≡ eqb b (v % 32)
@@ -96,44 +97,50 @@ pub one_shl : (b : ℕ) → b < 32 → (1 * 2 ^ b) % 2 ^ 32 ≡ 2 ^ b
 one_shl b l = shl_exact {a = 1} 1 b 32 (omega arith) (omega arith) ∙ omega arith
 
 -- ---- what the functions compute
-pub insert_word : (s : List ℕ) (v : ℕ) → Words s → v < 256 → set s (v / 32) (bit_or (get_or s (v / 32) 0) ((1 * 2 ^ (v % 32)) % 2 ^ 32)) ≡ insert v s
+pub insert_bit : (s : List ℕ) (v : ℕ) → Words s → v < 256 → set s (v / 32) (bit_or (get_or s (v / 32) 0) (2 ^ (v % 32))) ≡ insert v s
 unfolding insert
-insert_word s v ws l =
+insert_bit s v ws l =
     let m : v % 32 < 32 = omega arith in
     let x = get_or s (v / 32) 0 in
-    rw (one_shl (v % 32) m)
-    (word_changed (λ p q. p || q) (λ q. refl) s v (bit_or x (2 ^ (v % 32))) ws l
+    word_changed (λ p q. p || q) (λ q. refl) s v (bit_or x (2 ^ (v % 32))) ws l
     (or_lt 32 x (2 ^ (v % 32)) (ws.small (v / 32) (omega arith)) (pow-lt m))
-    (λ b r. bit_or_lem x (2 ^ (v % 32)) b ∙ ap (λ (t : Bool). bit_at x b || t) (bit_pow (v % 32) b) ∙ or_comm (bit_at x b) (eqb b (v % 32))))
+    (λ b r. bit_or_lem x (2 ^ (v % 32)) b ∙ ap (λ (t : Bool). bit_at x b || t) (bit_pow (v % 32) b) ∙ or_comm (bit_at x b) (eqb b (v % 32)))
 
-pub remove_word : (s : List ℕ) (v : ℕ) → Words s → v < 256
-    → set s (v / 32) (bit_and (get_or s (v / 32) 0) ((2 ^ 32 - 1) - (1 * 2 ^ (v % 32)) % 2 ^ 32)) ≡ remove v s
+pub remove_bit : (s : List ℕ) (v : ℕ) → Words s → v < 256 → set s (v / 32) (bit_and (get_or s (v / 32) 0) ((2 ^ 32 - 1) - 2 ^ (v % 32))) ≡ remove v s
 unfolding remove
-remove_word s v ws l =
+remove_bit s v ws l =
     let m : v % 32 < 32 = omega arith in
     let x = get_or s (v / 32) 0 in
     let n = 2 ^ 32 - 1 - 2 ^ (v % 32) in
-    rw (one_shl (v % 32) m)
-    (word_changed (λ p q. not p && q) (λ q. refl) s v (bit_and x n) ws l
+    word_changed (λ p q. not p && q) (λ q. refl) s v (bit_and x n) ws l
     (and_lt 32 x n (ws.small (v / 32) (omega arith)) (ones_sub-lt 32 (2 ^ (v % 32))))
     (λ b r. bit_and_lem x n b
     ∙ ap (λ (t : Bool). bit_at x b && t) (bit_not 32 (2 ^ (v % 32)) b (pow-lt m) r ∙ ap not (bit_pow (v % 32) b))
-    ∙ and_comm (bit_at x b) (not (eqb b (v % 32)))))
+    ∙ and_comm (bit_at x b) (not (eqb b (v % 32))))
 
-pub union_words : (s t : List ℕ) → Words s → Words t → upto (λ k. bit_or (get_or s k 0) (get_or t k 0)) 0 8 ≡ union s t
+-- the same, where the bit is shifted in place
+pub insert_word : (s : List ℕ) (v : ℕ) → Words s → v < 256 → set s (v / 32) (bit_or (get_or s (v / 32) 0) ((1 * 2 ^ (v % 32)) % 2 ^ 32)) ≡ insert v s
+insert_word s v ws l = rw (one_shl (v % 32) (omega arith)) (insert_bit s v ws l)
+
+pub remove_word : (s : List ℕ) (v : ℕ) → Words s → v < 256
+    → set s (v / 32) (bit_and (get_or s (v / 32) 0) ((2 ^ 32 - 1) - (1 * 2 ^ (v % 32)) % 2 ^ 32)) ≡ remove v s
+remove_word s v ws l = rw (one_shl (v % 32) (omega arith)) (remove_bit s v ws l)
+
+pub union_words : (s t r : List ℕ) → Words t → Words r → ((k : ℕ) → k < 8 → get_or r k 0 ≡ bit_or (get_or s k 0) (get_or t k 0)) → r ≡ union s t
 unfolding union
-union_words = wordwise₂ bit_or (λ p q. p || q) (λ x y hx hy. or_lt 32 x y hx hy) (λ x y b hx hy r. bit_or_lem x y b)
+union_words = wordwise₂ bit_or (λ p q. p || q) (λ x y b h l. bit_or_lem x y b)
 
-pub intersection_words : (s t : List ℕ) → Words s → Words t → upto (λ k. bit_and (get_or s k 0) (get_or t k 0)) 0 8 ≡ intersection s t
+pub intersection_words : (s t r : List ℕ) → Words t → Words r → ((k : ℕ) → k < 8 → get_or r k 0 ≡ bit_and (get_or s k 0) (get_or t k 0))
+    → r ≡ intersection s t
 unfolding intersection
-intersection_words = wordwise₂ bit_and (λ p q. p && q) (λ x y hx hy. and_lt 32 x y hx hy) (λ x y b hx hy r. bit_and_lem x y b)
+intersection_words = wordwise₂ bit_and (λ p q. p && q) (λ x y b h l. bit_and_lem x y b)
 
-pub difference_words : (s t : List ℕ) → Words s → Words t → upto (λ k. bit_and (get_or s k 0) ((2 ^ 32 - 1) - get_or t k 0)) 0 8 ≡ difference s t
+pub difference_words : (s t r : List ℕ) → Words t → Words r → ((k : ℕ) → k < 8 → get_or r k 0 ≡ bit_and (get_or s k 0) ((2 ^ 32 - 1) - get_or t k 0))
+    → r ≡ difference s t
 unfolding difference
 difference_words =
     wordwise₂ (λ x y. bit_and x ((2 ^ 32 - 1) - y)) (λ p q. p && not q)
-    (λ x y hx hy. and_lt 32 x ((2 ^ 32 - 1) - y) hx (ones_sub-lt 32 y))
-    (λ x y b hx hy r. bit_and_lem x ((2 ^ 32 - 1) - y) b ∙ ap (λ (t : Bool). bit_at x b && t) (bit_not 32 y b hy r))
+    (λ x y b h l. bit_and_lem x ((2 ^ 32 - 1) - y) b ∙ ap (λ (t : Bool). bit_at x b && t) (bit_not 32 y b h l))
 
 -- bit 31 of the lowest word and all of the others
 abbrev pub from_lowest : List ℕ → ℕ → ℕ
@@ -164,26 +171,23 @@ from_lowest_words s ws = wordwise (from_lowest s) (λ v. leb 31 v && has s v) sm
 
 -- ---- the highest member by words
 -- the highest bit of a word that is not 0 has the highest member of the set, where the words above are 0
-pub highest_word : (s : List ℕ) (k : ℕ) → Words s → k < 8 → (get_or s k 0 ≡ 0 → ⊥) → ((w : ℕ) → w < 256 → 32 * suc k ≤ w → has s w ≡ false)
-    → (count_leading_zeros 32 (get_or s k 0) ≤ 31) × (highest s ≡ some (32 * k + (31 - count_leading_zeros 32 (get_or s k 0))))
-highest_word s k ws l ne above =
-    let t = leading_top 32 (get_or s k 0) (omega arith) (ws.small k l) in
-    let e : count_leading_zeros 32 (get_or s k 0) + suc t.0 ≡ 32 = t.1 in
-    let d : 31 - count_leading_zeros 32 (get_or s k 0) ≡ t.0 = omega arith in (
-      omega arith,
-      rw d (highest_is s (32 * k + t.0) (omega arith) (has_word s k t.0 (omega arith) ∙ bit_top t.0 (get_or s k 0) t.2 t.3)
-          (none_above t.0 t.3)),
-    )
+pub highest_word : (s : List ℕ) (k j : ℕ) → k < 8 → j < 32 → 2 ^ j ≤ get_or s k 0 → get_or s k 0 < 2 * 2 ^ j
+    → ((w : ℕ) → w < 256 → 32 * suc k ≤ w → has s w ≡ false) → highest s ≡ Some (32 * k + j)
+highest_word s k j l m low high above =
+    highest_is s (32 * k + j) (omega arith) (has_word s k j m ∙ bit_top j (get_or s k 0) low top) none_above
   where
-    none_above : (j : ℕ) → get_or s k 0 < 2 ^ suc j → (w : ℕ) → w < 256 → 32 * k + j < w → has s w ≡ false
-    none_above j h w lw g = go (ltb w (32 * suc k)) refl
+    top : get_or s k 0 < 2 ^ suc j
+    top = let p : 2 ^ suc j ≡ 2 * 2 ^ j = pow-succ' 2 j in omega arith
+
+    none_above : (w : ℕ) → w < 256 → 32 * k + j < w → has s w ≡ false
+    none_above w lw g = go (ltb w (32 * suc k)) refl
       where
         go : (b : Bool) → ltb w (32 * suc k) ≡ b → has s w ≡ false
         go false p = above w lw (ltb-false w (32 * suc k) p)
         go true p =
-            let m : w < 32 * suc k = ltb-true w (32 * suc k) p in
+            let q : w < 32 * suc k = ltb-true w (32 * suc k) p in
             let e : w ≡ 32 * k + (w - 32 * k) = omega arith in
-            ap (has s) e ∙ has_word s k (w - 32 * k) (omega arith) ∙ bit_above (suc j) (get_or s k 0) (w - 32 * k) h (omega arith)
+            ap (has s) e ∙ has_word s k (w - 32 * k) (omega arith) ∙ bit_above (suc j) (get_or s k 0) (w - 32 * k) top (omega arith)
 
 -- a word that is 0 has no member
 pub no_member : (s : List ℕ) (v : ℕ) → get_or s (v / 32) 0 ≡ 0 → has s v ≡ false

@@ -1,10 +1,8 @@
 -- Sets of vectors 0 to 255: eight words of 32 bits, the lowest vectors first (clauses 2.7 and 2.17 of docs/SPECIFICATION.md).
 -- A set is said by its members: `collect f` is the set of the v with f v, and `has s v` says whether v is a member of s.
 -- Assumes nothing.
-use Rattle.std.specs.Prelude.{◌≡◌, Bool, true, false, cond, not, ◌&&◌, ◌||◌, List, [], ◌∷◌, ℕ, zero, suc, ◌+◌, ◌*◌, ◌/◌, ◌%◌, ◌^◌, ◌<◌, eqb, leb, length, get_or}
-use Rattle.std.proofs.Math.Option.{Option, none, some}
-use Rattle.vector_set.specs.declared.Found.{Found}
-use Rattle.vector_set.specs.declared.Found.TheVariants.{Vector, Nothing}
+use Rattle.std.specs.Prelude.{◌≡◌, Bool, true, false, cond, not, ◌&&◌, ◌||◌, List, [], ◌∷◌, ℕ, zero, suc, ◌+◌, ◌*◌, ◌/◌, ◌%◌, ◌^◌, ◌<◌, eqb, leb, length, get_or, is_none}
+use Rattle.std.specs.Prelude.{Option, None, Some}
 use Rattle.vector_set.specs.Bits.{one, bit_at, bits}
 
 -- v is a member of s: bit v mod 32 of word v div 32 (2.7, 2.17)
@@ -51,8 +49,8 @@ from x s = collect (λ v. leb x v && has s v)
 
 -- the highest member below n
 unfoldable pub highest_below : List ℕ → ℕ → Option ℕ
-highest_below s zero = none
-highest_below s (suc n) = let r = highest_below s n in cond (has s n) (some n) r
+highest_below s zero = None
+highest_below s (suc n) = let r = highest_below s n in cond (has s n) (Some n) r
 
 -- the highest member, or none (2.17)
 unfoldable pub highest : List ℕ → Option ℕ
@@ -68,21 +66,12 @@ unfoldable pub count : List ℕ → ℕ
 count s = count_below s 256
 
 -- there is no member
-abbrev pub is_none : Option ℕ → Bool
-is_none none = true
-is_none (some v) = false
-
 unfoldable pub is_empty : List ℕ → Bool
 is_empty s = is_none (highest s)
 
 -- the members 32 k to 32 k + 31 as a number, the lowest in bit 0 (6.14)
 unfoldable pub word_of : List ℕ → ℕ → ℕ
 word_of s k = bits (λ v. has s v) (32 * k) 32
-
--- what a search answers: the vector, or nothing
-abbrev pub vector_of : Found → Option ℕ
-vector_of (Vector v) = some v
-vector_of Nothing = none
 
 -- a set as an array holds it: eight words of 32 bits
 pub record Words (s : List ℕ) : Type 0 where

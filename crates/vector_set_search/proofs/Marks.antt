@@ -1,4 +1,4 @@
--- The byte of marks as code makes it: one bit made anew, and eight bits put side by side.
+-- The byte of marks as code makes it: one bit made anew, and one bit more.
 -- Assumes nothing.
 use mathlib.Core.Path.{◌≡◌, refl, sym, ap, ap₂, ◌∙◌}
 use mathlib.Core.Bool.{Bool, true, false, cond, not, ◌&&◌, ◌||◌}
@@ -56,7 +56,7 @@ bit_anew x k y t lx lk h =
     new_lt true = omega (arith, pow-lt {i = k} {j = 8} lk)
     new_lt false = omega arith
 
--- ---- eight bits side by side
+-- ---- bits side by side
 last_bit : (h : ℕ → Bool) (k n : ℕ) → bits h k (suc n) ≡ one (h (k + n)) * 2 ^ n + bits h k n
 unfolding bits
 last_bit h k zero = let e : k + 0 ≡ k = omega arith in rw e (omega arith)
@@ -65,23 +65,8 @@ last_bit h k (suc n) =
     let p : 2 ^ suc n ≡ 2 * 2 ^ n = pow-succ' 2 n in
     rw (last_bit h (suc k) n, e, p) (omega arith)
 
-bit_more : (h : ℕ → Bool) (n : ℕ) → bit_or (bits h 0 n) (one (h n) * 2 ^ n) ≡ bits h 0 (suc n)
+-- one more bit
+pub bit_more : (h : ℕ → Bool) (n : ℕ) → bit_or (bits h 0 n) (one (h n) * 2 ^ n) ≡ bits h 0 (suc n)
 bit_more h n =
     or_shifted_r (one (h n)) n (bits h 0 n) (bits_lt h 0 n)
     ∙ ap (λ (i : ℕ). one (h i) * 2 ^ n + bits h 0 n) (omega arith) ∙ sym (last_bit h 0 n)
-
-first_bit : (h : ℕ → Bool) → one (h 0) * 2 ^ 0 ≡ bits h 0 1
-unfolding bits
-first_bit h = omega arith
-
--- a number that has bit n alone, if it is set
-abbrev pub Placed : (ℕ → Bool) → ℕ → ℕ → Type 0
-Placed h n x = x ≡ one (h n) * 2 ^ n
-
-pub eight_bits : (h : ℕ → Bool) {a b c d e f g i : ℕ} → Placed h 0 a → Placed h 1 b → Placed h 2 c → Placed h 3 d
-    → Placed h 4 e → Placed h 5 f → Placed h 6 g → Placed h 7 i
-    → bit_or (bit_or (bit_or (bit_or (bit_or (bit_or (bit_or a b) c) d) e) f) g) i ≡ bits h 0 8
-eight_bits h a b c d e f g i = on 7 (on 6 (on 5 (on 4 (on 3 (on 2 (on 1 (a ∙ first_bit h) b) c) d) e) f) g) i
-  where
-    on : (n : ℕ) {x y : ℕ} → x ≡ bits h 0 n → Placed h n y → bit_or x y ≡ bits h 0 (suc n)
-    on n p q = ap₂ bit_or p q ∙ bit_more h n

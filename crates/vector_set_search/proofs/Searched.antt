@@ -3,7 +3,7 @@
 use mathlib.Core.Path.{◌≡◌, refl, sym, ap, ◌∙◌}
 use mathlib.Core.Bool.{Bool, true, false}
 use mathlib.Core.List.{List}
-use mathlib.Core.Option.{Option, none, some}
+use Rattle.std.specs.Prelude.{Option, None, Some}
 use Prim.Native.Nat.{ℕ, ◌+◌, ◌*◌, ◌/◌, ◌<◌, ◌≤◌}
 use native.Mathlib.Omega.{arith}
 use lib.Dec.{eqb, ltb}
@@ -25,8 +25,8 @@ at_most_eight_lem : (s : List ℕ) → words_read s ≤ 8
 at_most_eight_lem s = go (highest s) refl
   where
     go : (o : Option ℕ) → highest s ≡ o → words_read s ≤ 8
-    go none e = omega (arith, reads s none e)
-    go (some v) e = let l : v < 256 = (highest_has s v e).1 in omega (arith, reads s (some v) e)
+    go None e = omega (arith, reads s None e)
+    go (Some v) e = let l : v < 256 = (highest_has s v e).1 in omega (arith, reads s (Some v) e)
 
 -- ---- a word without members is 0
 pub is_zero : (s : List ℕ) (k : ℕ) → Words s → k < 8 → ((v : ℕ) → v < 256 → v / 32 ≡ k → has s v ≡ false) → get_or s k 0 ≡ 0
@@ -42,8 +42,8 @@ read_if_zero_above_lem : (s : List ℕ) (k : ℕ) → k < 8 → ZeroAbove s k �
 read_if_zero_above_lem s k l h = go (highest s) refl
   where
     go : (o : Option ℕ) → highest s ≡ o → InTop (words_read s) k
-    go none e = omega (arith, reads s none e)
-    go (some v) e = by_word (ltb k (v / 32)) refl
+    go None e = omega (arith, reads s None e)
+    go (Some v) e = by_word (ltb k (v / 32)) refl
       where
         m : (has s v ≡ true) × (v < 256)
         m = highest_has s v e
@@ -54,14 +54,14 @@ read_if_zero_above_lem s k l h = go (highest s) refl
             let i : v < 256 = m.1 in
             let n : has s v ≡ false = no_member s v (h (v / 32) (ltb-true k (v / 32) p) (omega arith)) in
             clash (cc)
-        by_word false p = let g : v / 32 ≤ k = ltb-false k (v / 32) p in omega (arith, reads s (some v) e)
+        by_word false p = let g : v / 32 ≤ k = ltb-false k (v / 32) p in omega (arith, reads s (Some v) e)
 
 zero_above_if_read_lem : (s : List ℕ) (k : ℕ) → Words s → k < 8 → InTop (words_read s) k → ZeroAbove s k
 zero_above_if_read_lem s k w l r = zero_above s k w (go (highest s) refl)
   where
     go : (o : Option ℕ) → highest s ≡ o → (v : ℕ) → v < 256 → k < v / 32 → has s v ≡ false
-    go none e = λ v m g. highest_none s e v m
-    go (some u) e = λ v m g. highest_above s u e v m (omega (arith, reads s (some u) e))
+    go None e = λ v m g. highest_none s e v m
+    go (Some u) e = λ v m g. highest_above s u e v m (omega (arith, reads s (Some u) e))
 
 -- the top word is read, and no other where it is not 0
 top_word_alone_lem : (s : List ℕ) → Words s → (get_or s 7 0 ≡ 0 → ⊥) → words_read s ≡ 1
@@ -81,11 +81,11 @@ same_answer : (s t : List ℕ) → SameTop (words_read s) s t → highest t ≡ 
 same_answer s t h = go (highest s) refl
   where
     go : (o : Option ℕ) → highest s ≡ o → highest t ≡ o
-    go none e = highest_no t (λ w m. h w m (omega (arith, reads s none e)) ∙ highest_none s e w m)
-    go (some v) e =
+    go None e = highest_no t (λ w m. h w m (omega (arith, reads s None e)) ∙ highest_none s e w m)
+    go (Some v) e =
         let m = highest_has s v e in
-        highest_is t v m.1 (h v m.1 (omega (arith, reads s (some v) e)) ∙ m.0)
-        (λ w l g. h w l (omega (arith, reads s (some v) e)) ∙ highest_above s v e w l g)
+        highest_is t v m.1 (h v m.1 (omega (arith, reads s (Some v) e)) ∙ m.0)
+        (λ w l g. h w l (omega (arith, reads s (Some v) e)) ∙ highest_above s v e w l g)
 
 suffice : (s t : List ℕ) → SameTop (words_read s) s t → (highest t ≡ highest s) × (words_read t ≡ words_read s)
 suffice s t h = let e = same_answer s t h in (e, reads t _ e ∙ sym (reads s _ refl))
@@ -95,11 +95,11 @@ fewer_do_not : (s : List ℕ) (m : ℕ) → m < words_read s → (t : List ℕ) 
 fewer_do_not s m l = go (highest s) refl
   where
     go : (o : Option ℕ) → highest s ≡ o → (t : List ℕ) × Words t × SameTop m s t × (highest t ≡ highest s → ⊥)
-    go none e = (insert 0 empty, words_insert 0 empty, same, other)
+    go None e = (insert 0 empty, words_insert 0 empty, same, other)
       where
         same : SameTop m s (insert 0 empty)
         same v k g =
-            let r = reads s none e in
+            let r = reads s None e in
             let d : eqb v 0 ≡ false = ne_eqb v 0 (omega arith) in
             has_insert 0 empty v k ∙ rw (d, has_empty v k) (sym (highest_none s e v k))
 
@@ -108,10 +108,10 @@ fewer_do_not s m l = go (highest s) refl
             let y : has (insert 0 empty) 0 ≡ true = has_insert 0 empty 0 (omega arith) in
             let n : has (insert 0 empty) 0 ≡ false = highest_none (insert 0 empty) (q ∙ e) 0 (omega arith) in
             clash (cc)
-    go (some v) e = (empty, words_empty, same, other)
+    go (Some v) e = (empty, words_empty, same, other)
       where
         same : SameTop m s empty
-        same w k g = has_empty w k ∙ sym (highest_above s v e w k (omega (arith, reads s (some v) e)))
+        same w k g = has_empty w k ∙ sym (highest_above s v e w k (omega (arith, reads s (Some v) e)))
 
         other : highest empty ≡ highest s → ⊥
         other q =

@@ -3,7 +3,7 @@
 use mathlib.Core.Path.{◌≡◌, refl, sym, ap, ap₂, ◌∙◌, subst}
 use mathlib.Core.Bool.{Bool, true, false, cond, not, ◌&&◌, and-true, and-false}
 use mathlib.Core.List.{List, [], ◌∷◌}
-use mathlib.Core.Option.{Option, none, some}
+use Rattle.std.specs.Prelude.{Option, None, Some}
 use Prim.Native.Nat.{ℕ, zero, suc, ◌+◌, ◌-◌, ◌*◌, ◌/◌, ◌^◌, ◌<◌, ◌≤◌}
 use native.Mathlib.Omega.{arith}
 use native.Mathlib.Nat.{div-eq_of_lt}
@@ -30,14 +30,14 @@ both : (p q : Bool) → (p && q) ≡ true → (p ≡ true) × (q ≡ true)
 both true q e = (refl, e)
 both false q e = clash (cc)
 
-is_highest_marked : (b : ℕ) (s : List ℕ) (v : ℕ) → highest_marked b s ≡ some v
+is_highest_marked : (b : ℕ) (s : List ℕ) (v : ℕ) → highest_marked b s ≡ Some v
     → (v < 256) × (bit_at b (v / 32) ≡ true) × (has s v ≡ true) × ((w : ℕ) → w < 256 → v < w → bit_at b (w / 32) ≡ true → has s w ≡ false)
 is_highest_marked b s v e =
     let h = highest_has (in_marked b s) v e in
     let m = both (bit_at b (v / 32)) (has s v) (sym (has_marked b s v h.1) ∙ h.0) in
     (h.1, m.0, m.1, λ w l g k. sym (has_in b s w l k) ∙ highest_above (in_marked b s) v e w l g)
 
-none_in_marked_lem : (b : ℕ) (s : List ℕ) → highest_marked b s ≡ none → (w : ℕ) → w < 256 → bit_at b (w / 32) ≡ true → has s w ≡ false
+none_in_marked_lem : (b : ℕ) (s : List ℕ) → highest_marked b s ≡ None → (w : ℕ) → w < 256 → bit_at b (w / 32) ≡ true → has s w ≡ false
 none_in_marked_lem b s e w l k = sym (has_in b s w l k) ∙ highest_none (in_marked b s) e w l
 
 -- ---- the number
@@ -48,21 +48,21 @@ at_most_marked_lem : (b : ℕ) (s : List ℕ) → marked_read b s ≤ ones b
 at_most_marked_lem b s = go (highest_marked b s) refl
   where
     go : (o : Option ℕ) → highest_marked b s ≡ o → marked_read b s ≤ ones b
-    go none e = omega (arith, reads_marked b s none e)
-    go (some v) e = subst (λ (n : ℕ). n ≤ ones b) (sym (reads_marked b s (some v) e)) (all_from b _)
+    go None e = omega (arith, reads_marked b s None e)
+    go (Some v) e = subst (λ (n : ℕ). n ≤ ones b) (sym (reads_marked b s (Some v) e)) (all_from b _)
 
-none_marked_lem : (s : List ℕ) → (highest_marked 0 s ≡ none) × (marked_read 0 s ≡ 0)
+none_marked_lem : (s : List ℕ) → (highest_marked 0 s ≡ None) × (marked_read 0 s ≡ 0)
 none_marked_lem s =
-    let e : highest_marked 0 s ≡ none = highest_no (in_marked 0 s) (λ w l. has_out 0 s w l (bit_zero (w / 32))) in
-    (e, omega (arith, reads_marked 0 s none e, ones-ones 0))
+    let e : highest_marked 0 s ≡ None = highest_no (in_marked 0 s) (λ w l. has_out 0 s w l (bit_zero (w / 32))) in
+    (e, omega (arith, reads_marked 0 s None e, ones-ones 0))
 
 -- ---- where all words are marked
 same_highest : (s t : List ℕ) → ((v : ℕ) → v < 256 → has t v ≡ has s v) → highest t ≡ highest s
 same_highest s t h = go (highest s) refl
   where
     go : (o : Option ℕ) → highest s ≡ o → highest t ≡ o
-    go none e = highest_no t (λ w l. h w l ∙ highest_none s e w l)
-    go (some v) e =
+    go None e = highest_no t (λ w l. h w l ∙ highest_none s e w l)
+    go (Some v) e =
         let m = highest_has s v e in
         highest_is t v m.1 (h v m.1 ∙ m.0) (λ w l g. h w l ∙ highest_above s v e w l g)
 
@@ -83,10 +83,10 @@ all_marked_lem s = (same, go (highest s) refl)
     same = same_highest s (in_marked 255 s) (λ v l. has_in 255 s v l (each_marked (v / 32) (omega arith)))
 
     go : (o : Option ℕ) → highest s ≡ o → marked_read 255 s ≡ words_read s
-    go none e = omega (arith, reads_marked 255 s none (same ∙ e), ones-ones 8, reads s none e)
-    go (some v) e =
+    go None e = omega (arith, reads_marked 255 s None (same ∙ e), ones-ones 8, reads s None e)
+    go (Some v) e =
         let l : v < 256 = (highest_has s v e).1 in
-        omega (arith, reads_marked 255 s (some v) (same ∙ e), ones_down (v / 32) (omega arith), reads s (some v) e)
+        omega (arith, reads_marked 255 s (Some v) (same ∙ e), ones_down (v / 32) (omega arith), reads s (Some v) e)
 
 -- ---- with the set's own summary
 summary_bit : (s : List ℕ) (k : ℕ) → k < 8 → bit_at (summary_of s) k ≡ holds s k
@@ -127,19 +127,19 @@ summary_above s n w h =
         let z : get_or s k 0 ≡ 0 = is_zero s k w l (λ v m d. h v m (omega arith)) in
         summary_bit s k l ∙ ap (λ (x : ℕ). not (eqb x 0)) z
 
-by_summary_one_lem : (s : List ℕ) (v : ℕ) → Words s → highest s ≡ some v → marked_read (summary_of s) s ≡ 1
+by_summary_one_lem : (s : List ℕ) (v : ℕ) → Words s → highest s ≡ Some v → marked_read (summary_of s) s ≡ 1
 by_summary_one_lem s v w e =
     let h = highest_has s v e in
     let l : v < 256 = h.1 in
     let o : one (bit_at (summary_of s) (v / 32)) ≡ 1 = ap one (summary_bit s (v / 32) (omega arith) ∙ member_holds s v h.0) in
     let z : summary_of s / 2 ^ suc (v / 32) ≡ 0 = summary_above s (suc (v / 32)) w (λ u m g. highest_above s v e u m (omega arith)) in
     let n : ones (summary_of s / 2 ^ suc (v / 32)) ≡ 0 = ap ones z ∙ ones-ones 0 in
-    omega (arith, reads_marked (summary_of s) s (some v) (by_summary_lem s ∙ e), ones_from (summary_of s) (v / 32))
+    omega (arith, reads_marked (summary_of s) s (Some v) (by_summary_lem s ∙ e), ones_from (summary_of s) (v / 32))
 
-by_summary_none_lem : (s : List ℕ) → Words s → highest s ≡ none → marked_read (summary_of s) s ≡ 0
+by_summary_none_lem : (s : List ℕ) → Words s → highest s ≡ None → marked_read (summary_of s) s ≡ 0
 by_summary_none_lem s w e =
     let z : marked_from (summary_of s) 0 ≡ 0 = ap ones (summary_above s 0 w (λ v l g. highest_none s e v l)) ∙ ones-ones 0 in
-    omega (arith, reads_marked (summary_of s) s none (by_summary_lem s ∙ e), from_zero (summary_of s))
+    omega (arith, reads_marked (summary_of s) s None (by_summary_lem s ∙ e), from_zero (summary_of s))
 
 -- ---- the words that are read
 read_suffice_lem : (b : ℕ) (s t : List ℕ) → SameIn (is_read b s) s t → (highest_marked b t ≡ highest_marked b s) × (marked_read b t ≡ marked_read b s)
@@ -154,10 +154,10 @@ read_suffice_lem b s t h = let e = go (highest_marked b s) refl in (e, reads_mar
             has_in b t v l p ∙ h v l (ap₂ (λ (x y : Bool). x && y) p (le-leb (lowest_read (highest_marked b s)) (v / 32) g)) ∙ sym (has_in b s v l p)
 
     go : (o : Option ℕ) → highest_marked b s ≡ o → highest_marked b t ≡ o
-    go none e =
+    go None e =
         let d : lowest_read (highest_marked b s) ≡ 0 = ap lowest_read e in
         highest_no (in_marked b t) (λ w l. same w l (omega arith) ∙ highest_none (in_marked b s) e w l)
-    go (some v) e =
+    go (Some v) e =
         let d : lowest_read (highest_marked b s) ≡ v / 32 = ap lowest_read e in
         let m = highest_has (in_marked b s) v e in
         highest_is (in_marked b t) v m.1 (same v m.1 (omega arith) ∙ m.0) (λ w l g. same w l (omega arith) ∙ highest_above (in_marked b s) v e w l g)
@@ -205,8 +205,8 @@ each_read_needed b s k l r = go (highest_marked b s) refl
     )
 
     go : (o : Option ℕ) → highest_marked b s ≡ o → Other b s k
-    go none e = with_all (λ q. none_in_marked_lem b (refilled true k s) (q ∙ e) (32 * k) (omega arith) (ap (bit_at b) (omega arith) ∙ m))
-    go (some v) e = by (eqb (v / 32) k) refl
+    go None e = with_all (λ q. none_in_marked_lem b (refilled true k s) (q ∙ e) (32 * k) (omega arith) (ap (bit_at b) (omega arith) ∙ m))
+    go (Some v) e = by (eqb (v / 32) k) refl
       where
         d : lowest_read (highest_marked b s) ≡ v / 32
         d = ap lowest_read e
@@ -259,13 +259,13 @@ counts_read_lem b s l = go (highest_marked b s) refl
     above = ap ones (div-eq_of_lt l) ∙ ones-ones 0
 
     go : (o : Option ℕ) → highest_marked b s ≡ o → marked_read b s ≡ words_with (is_read b s) 8
-    go none e =
+    go None e =
         let d : m ≡ 0 = ap lowest_read e in
-        omega (arith, reads_marked b s none e, from_zero b, ap (marked_from b) d, counted b m 8 (omega arith), above)
-    go (some v) e =
+        omega (arith, reads_marked b s None e, from_zero b, ap (marked_from b) d, counted b m 8 (omega arith), above)
+    go (Some v) e =
         let d : m ≡ v / 32 = ap lowest_read e in
         let k : v < 256 = (highest_has (in_marked b s) v e).1 in
-        omega (arith, reads_marked b s (some v) e, ap (marked_from b) d, counted b m 8 (omega arith), above)
+        omega (arith, reads_marked b s (Some v) e, ap (marked_from b) d, counted b m 8 (omega arith), above)
 
 -- ---- the claims
 pub marked_claims : MarkedClaims
@@ -293,16 +293,16 @@ pub worked_marked : WorkedMarked
 unfolding summary_of in_marked collect words bits has highest highest_below ones
 worked_marked =
     record {
-      empty_none = case 0 no_members no_members none 0 refl refl refl;
-      empty_all = case 0xFF no_members no_members none 8 refl refl refl;
-      empty_top = case 0x80 no_members no_members none 1 refl refl refl;
+      empty_none = case 0 no_members no_members None 0 refl refl refl;
+      empty_all = case 0xFF no_members no_members None 8 refl refl refl;
+      empty_top = case 0x80 no_members no_members None 1 refl refl refl;
       own_summary = refl;
-      none_marked = case 0 four_members no_members none 0 refl refl refl;
-      summary = case 0x25 four_members four_members (some 0xAD) 1 refl refl refl;
-      all = case 0xFF four_members four_members (some 0xAD) 3 refl refl refl;
-      top_empty = case 0xA5 four_members four_members (some 0xAD) 2 refl refl refl;
-      only_empty = case 0xDA four_members no_members none 5 refl refl refl;
-      left_out = case 0x05 four_members (0x8000_0000 ∷ 0 ∷ 0x8000_0002 ∷ 0 ∷ 0 ∷ 0 ∷ 0 ∷ 0 ∷ []) (some 0x5F) 1 refl refl refl;
-      left_out_two = case 0x03 four_members (0x8000_0000 ∷ 0 ∷ 0 ∷ 0 ∷ 0 ∷ 0 ∷ 0 ∷ 0 ∷ []) (some 31) 2 refl refl refl;
-      between = case 0x5C four_members (0 ∷ 0 ∷ 0x8000_0002 ∷ 0 ∷ 0 ∷ 0 ∷ 0 ∷ 0 ∷ []) (some 0x5F) 4 refl refl refl;
+      none_marked = case 0 four_members no_members None 0 refl refl refl;
+      summary = case 0x25 four_members four_members (Some 0xAD) 1 refl refl refl;
+      all = case 0xFF four_members four_members (Some 0xAD) 3 refl refl refl;
+      top_empty = case 0xA5 four_members four_members (Some 0xAD) 2 refl refl refl;
+      only_empty = case 0xDA four_members no_members None 5 refl refl refl;
+      left_out = case 0x05 four_members (0x8000_0000 ∷ 0 ∷ 0x8000_0002 ∷ 0 ∷ 0 ∷ 0 ∷ 0 ∷ 0 ∷ []) (Some 0x5F) 1 refl refl refl;
+      left_out_two = case 0x03 four_members (0x8000_0000 ∷ 0 ∷ 0 ∷ 0 ∷ 0 ∷ 0 ∷ 0 ∷ 0 ∷ []) (Some 31) 2 refl refl refl;
+      between = case 0x5C four_members (0 ∷ 0 ∷ 0x8000_0002 ∷ 0 ∷ 0 ∷ 0 ∷ 0 ∷ 0 ∷ []) (Some 0x5F) 4 refl refl refl;
     }

@@ -1,16 +1,16 @@
 -- A turn of the search over marked words: what is left of the marks is the byte below some bit, and the words from there on have no member that counts.
 -- Assumes nothing.
-use mathlib.Core.Path.{◌≡◌, refl, sym, ap, ◌∙◌, subst}
+use mathlib.Core.Path.{◌≡◌, refl, sym, ap, ◌∙◌}
 use mathlib.Core.Bool.{Bool, true, false}
 use mathlib.Core.List.{List}
-use mathlib.Core.Option.{Option, none, some}
+use Rattle.std.specs.Prelude.{Option, None, Some}
 use Prim.Native.Nat.{ℕ, suc, ◌+◌, ◌-◌, ◌*◌, ◌/◌, ◌%◌, ◌^◌, ◌<◌, ◌≤◌}
 use native.Mathlib.Omega.{arith}
-use native.Mathlib.Nat.{mod-lt, mod-eq_of_lt, div-one, div-eq_of_lt}
+use native.Mathlib.Nat.{mod-lt, mod-eq_of_lt, div-one, div-eq_of_lt, pow-succ'}
 use lib.Dec.{ltb}
 use lib.ListN.{get_or}
-use lib.Pow.{pow_pos, pow_mono, shr_le, mod-mod-pow, mod-pow-add}
-use lib.Count.{ones, ones-ones, ones-le, count_leading_zeros, leading_top}
+use lib.Pow.{pow_pos, pow_mono, mod-mod-pow, mod-pow-add}
+use lib.Count.{ones, ones-ones}
 use borrow.Author.Tests.{ltb-true, ltb-false}
 use Rattle.vector_set.specs.Bits.{one, bit_at}
 use Rattle.vector_set.specs.Sets.{has, highest, Words}
@@ -18,7 +18,7 @@ use Rattle.vector_set.specs.Summaries.{in_marked}
 use Rattle.vector_set.proofs.BitLaws.{bit_number, bit_mod, bit_above, bit_top, bit_zero}
 use Rattle.vector_set.proofs.Laws.{highest_no}
 use Rattle.vector_set.proofs.WordLaws.{highest_word, zero_word}
-use Rattle.vector_set.proofs.MarkedLaws.{words_marked, has_out, word_in, ones_from, ones_between}
+use Rattle.vector_set.proofs.MarkedLaws.{has_out, word_in, ones_from, ones_between}
 use Rattle.vector_set_search.specs.Marked.{marked_down_to, marked_read}
 
 -- how many marked words there are from word 7 down to word k
@@ -40,7 +40,6 @@ pub record Left (b : ℕ) (s : List ℕ) (left read : ℕ) : Type 0 where
 -- in a turn: word k is the next one that is marked
 pub record Turn (b : ℕ) (s : List ℕ) (left read k : ℕ) : Type 0 where
   pub small : k < 8
-  pub top : count_leading_zeros 32 left + suc k ≡ 32
   pub fits : 2 ^ k ≤ left
   pub marked : bit_at b k ≡ true
   pub rest : left - 2 ^ k ≡ b % 2 ^ k
@@ -55,10 +54,6 @@ reads_marked b s o e = ap (marked_down_to b) e
 -- all marked words are those from word 0 on
 pub from_zero : (b : ℕ) → marked_from b 0 ≡ ones b
 from_zero b = ap ones (div-one b)
-
--- at most eight words are marked
-pub from_le : (b k : ℕ) → b < 256 → marked_from b k ≤ 8
-from_le b k l = ones-le 8 (b / 2 ^ k) (omega (arith, shr_le b k))
 
 -- ---- the turns
 ones_zero : ones 0 ≡ 0
@@ -113,41 +108,30 @@ top_none b s n j hi h w m g = go (ltb w (32 * n)) refl
         let k : w < 32 * n = ltb-true w (32 * n) p in
         has_out b s w m (sym (bit_mod n b (w / 32) (omega arith)) ∙ bit_above (suc j) (b % 2 ^ n) (w / 32) hi (omega arith))
 
-pub turn : (b : ℕ) (s : List ℕ) (left read : ℕ) → Left b s left read → (left ≡ 0 → ⊥) → Turn b s left read (31 - count_leading_zeros 32 left)
-turn b s left read h ne =
+pub turn : (b : ℕ) (s : List ℕ) (left read j : ℕ) → Left b s left read → 2 ^ j ≤ left → left < 2 * 2 ^ j → Turn b s left read j
+turn b s left read j h lo hi =
     let n = h.n in
+    let few : n ≤ 8 = h.few in
     let r : left ≡ b % 2 ^ n = h.rest in
-    let l : left < 2 ^ 32 = omega (arith, mod-lt b (pow_pos n), pow_mono {i = n} {j = 8} h.few) in
-    let t = leading_top 32 left (omega arith) l in
-    let e : count_leading_zeros 32 left + suc t.0 ≡ 32 = t.1 in
-    let d : 31 - count_leading_zeros 32 left ≡ t.0 = omega arith in
-    subst (Turn b s left read) (sym d) (at t.0 e t.2 t.3)
-  where
-    at : (j : ℕ) → count_leading_zeros 32 left + suc j ≡ 32 → 2 ^ j ≤ left → left < 2 ^ suc j → Turn b s left read j
-    at j e lo hi =
-        let n = h.n in
-        let few : n ≤ 8 = h.few in
-        let r : left ≡ b % 2 ^ n = h.rest in
-        let o : 2 ^ j ≤ b % 2 ^ n = omega arith in
-        let i : b % 2 ^ n < 2 ^ suc j = omega arith in
-        let k : j < n = top_below b n j o in
-        record {
-          small = omega arith;
-          top = e;
-          fits = lo;
-          marked = top_marked b n j k o i;
-          rest = ap (λ (x : ℕ). x - 2 ^ j) r ∙ top_rest b n j k o i;
-          number = ap (λ (x : ℕ). x + 1) h.number ∙ top_number b n j k o i;
-          none_above = top_none b s n j i h.none_from;
-        }
+    let p : 2 ^ suc j ≡ 2 * 2 ^ j = pow-succ' 2 j in
+    let o : 2 ^ j ≤ b % 2 ^ n = omega arith in
+    let i : b % 2 ^ n < 2 ^ suc j = omega arith in
+    let k : j < n = top_below b n j o in
+    record {
+      small = omega arith;
+      fits = lo;
+      marked = top_marked b n j k o i;
+      rest = ap (λ (x : ℕ). x - 2 ^ j) r ∙ top_rest b n j k o i;
+      number = ap (λ (x : ℕ). x + 1) h.number ∙ top_number b n j k o i;
+      none_above = top_none b s n j i h.none_from;
+    }
 
 -- word k is not 0: its highest member is the answer
-pub found : (b : ℕ) (s : List ℕ) (left read k : ℕ) → Words s → Turn b s left read k → (get_or s k 0 ≡ 0 → ⊥)
-    → (count_leading_zeros 32 (get_or s k 0) ≤ 31) × (highest (in_marked b s) ≡ some (32 * k + (31 - count_leading_zeros 32 (get_or s k 0))))
-found b s left read k ws t ne =
-    let e = word_in b s k ws t.small t.marked in
-    subst (λ (x : ℕ). (count_leading_zeros 32 x ≤ 31) × (highest (in_marked b s) ≡ some (32 * k + (31 - count_leading_zeros 32 x)))) e
-    (highest_word (in_marked b s) k (words_marked b s) t.small (λ z. ne (sym e ∙ z)) t.none_above)
+pub found : (b : ℕ) (s : List ℕ) (left read k j : ℕ) → Words s → Turn b s left read k → j < 32 → 2 ^ j ≤ get_or s k 0 → get_or s k 0 < 2 * 2 ^ j
+    → highest (in_marked b s) ≡ Some (32 * k + j)
+found b s left read k j ws t l lo hi =
+    let e : get_or (in_marked b s) k 0 ≡ get_or s k 0 = word_in b s k ws t.small t.marked in
+    highest_word (in_marked b s) k j t.small l (omega (arith, e)) (omega (arith, e)) t.none_above
 
 -- word k is 0: the turns go on below it
 pub passed : (b : ℕ) (s : List ℕ) (left read k : ℕ) → Words s → Turn b s left read k → get_or s k 0 ≡ 0 → Left b s (left - 2 ^ k) (read + 1)
@@ -162,13 +146,13 @@ passed b s left read k ws t z =
     }
 
 -- nothing is left: no marked word has a member
-pub nothing_left : (b : ℕ) (s : List ℕ) (left read : ℕ) → Left b s left read → left ≡ 0 → (highest (in_marked b s) ≡ none) × (read ≡ marked_read b s)
+pub nothing_left : (b : ℕ) (s : List ℕ) (left read : ℕ) → Left b s left read → left ≡ 0 → (highest (in_marked b s) ≡ None) × (read ≡ marked_read b s)
 nothing_left b s left read h z =
     let n = h.n in
     let r : b % 2 ^ n ≡ 0 = sym h.rest ∙ z in
-    let no : highest (in_marked b s) ≡ none = highest_no (in_marked b s) (λ w m. go n r h.none_from w m (ltb w (32 * n)) refl) in
+    let no : highest (in_marked b s) ≡ None = highest_no (in_marked b s) (λ w m. go n r h.none_from w m (ltb w (32 * n)) refl) in
     let o : ones (b % 2 ^ n / 2 ^ 0) ≡ 0 = ap (λ (x : ℕ). ones (x / 2 ^ 0)) r ∙ ones_zero in
-    (no, omega (arith, h.number, from_zero b, ones_between b 0 n (omega arith), reads_marked b s none no))
+    (no, omega (arith, h.number, from_zero b, ones_between b 0 n (omega arith), reads_marked b s None no))
   where
     go : (n : ℕ) → b % 2 ^ n ≡ 0 → NoneFrom b s n → (w : ℕ) → w < 256 → (t : Bool) → ltb w (32 * n) ≡ t → has (in_marked b s) w ≡ false
     go n r f w m false p = f w m (ltb-false w (32 * n) p)

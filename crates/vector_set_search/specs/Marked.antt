@@ -2,7 +2,7 @@
 -- worked cases (14.82). Bit k of the byte is for word k, that of the vectors 32 k to 32 k + 31; word 7 is the top one.
 -- Assumes nothing.
 use Rattle.std.specs.Prelude.{◌≡◌, Bool, true, false, not, ◌&&◌, List, [], ◌∷◌, ℕ, zero, suc, ◌+◌, ◌/◌, ◌^◌, ◌<◌, ◌≤◌, eqb, leb}
-use Rattle.std.proofs.Math.Option.{Option, none, some}
+use Rattle.std.specs.Prelude.{Option, None, Some}
 use Rattle.std.specs.Int.Count.{ones}
 use Rattle.vector_set.specs.Bits.{one, bit_at}
 use Rattle.vector_set.specs.Sets.{has, highest, Words}
@@ -15,8 +15,8 @@ highest_marked b s = highest (in_marked b s)
 
 -- how many marked words there are from word 7 down to that of the answer, which counts too; without an answer all marked words (2.20)
 abbrev pub marked_down_to : ℕ → Option ℕ → ℕ
-marked_down_to b none = ones b
-marked_down_to b (some v) = ones (b / 2 ^ (v / 32))
+marked_down_to b None = ones b
+marked_down_to b (Some v) = ones (b / 2 ^ (v / 32))
 
 -- how many words a search of s reads that looks at the words that b marks alone, the highest first (2.20)
 unfoldable pub marked_read : ℕ → List ℕ → ℕ
@@ -25,8 +25,8 @@ marked_read b s = marked_down_to b (highest_marked b s)
 -- ---- what is claimed
 -- the lowest word that a search looks at, where it is marked: that of the answer; without an answer word 0 (13.75)
 abbrev pub lowest_read : Option ℕ → ℕ
-lowest_read none = 0
-lowest_read (some v) = v / 32
+lowest_read None = 0
+lowest_read (Some v) = v / 32
 
 -- word k is read in a search of s over the words that b marks: it is marked, and not below that of the answer (13.75)
 abbrev pub is_read : ℕ → List ℕ → ℕ → Bool
@@ -46,18 +46,18 @@ pub record MarkedClaims : Type 0 where
   -- an answer is a member in a marked word, and no member of a marked word is above it
   pub isHighestMarked :
       (b : ℕ) (s : List ℕ) (v : ℕ)
-      → highest_marked b s ≡ some v
+      → highest_marked b s ≡ Some v
       → (v < 256) × (bit_at b (v / 32) ≡ true) × (has s v ≡ true) × ((w : ℕ) → w < 256 → v < w → bit_at b (w / 32) ≡ true → has s w ≡ false)
   -- without an answer no marked word has a member
-  pub none_in_marked : (b : ℕ) (s : List ℕ) → highest_marked b s ≡ none → (w : ℕ) → w < 256 → bit_at b (w / 32) ≡ true → has s w ≡ false
+  pub none_in_marked : (b : ℕ) (s : List ℕ) → highest_marked b s ≡ None → (w : ℕ) → w < 256 → bit_at b (w / 32) ≡ true → has s w ≡ false
   -- at most as many words are read as are marked
   pub at_most_marked : (b : ℕ) (s : List ℕ) → marked_read b s ≤ ones b
   -- no answer and no word read, where none is marked
-  pub none_marked : (s : List ℕ) → (highest_marked 0 s ≡ none) × (marked_read 0 s ≡ 0)
+  pub none_marked : (s : List ℕ) → (highest_marked 0 s ≡ None) × (marked_read 0 s ≡ 0)
   -- with a set's own summary: its highest member, in the one word that is read; none is read where there is no member
   pub by_summary : (s : List ℕ) → highest_marked (summary_of s) s ≡ highest s
-  pub by_summary_one : (s : List ℕ) (v : ℕ) → Words s → highest s ≡ some v → marked_read (summary_of s) s ≡ 1
-  pub by_summary_none : (s : List ℕ) → Words s → highest s ≡ none → marked_read (summary_of s) s ≡ 0
+  pub by_summary_one : (s : List ℕ) (v : ℕ) → Words s → highest s ≡ Some v → marked_read (summary_of s) s ≡ 1
+  pub by_summary_none : (s : List ℕ) → Words s → highest s ≡ None → marked_read (summary_of s) s ≡ 0
   -- where all words are marked, it is the search of the whole set
   pub all_marked : (s : List ℕ) → (highest_marked 255 s ≡ highest s) × (marked_read 255 s ≡ words_read s)
   -- what a word holds that is not read changes neither answer nor number; so it is with an unmarked one
@@ -87,18 +87,18 @@ four_members = 0x8000_0000 ∷ 0 ∷ 0x8000_0002 ∷ 0 ∷ 0 ∷ 0x2000 ∷ 0 �
 -- (14.82)
 pub record WorkedMarked : Type 0 where
   -- the empty set: no word marked, all, the top one
-  pub empty_none : Gives 0 no_members none 0
-  pub empty_all : Gives 0xFF no_members none 8
-  pub empty_top : Gives 0x80 no_members none 1
+  pub empty_none : Gives 0 no_members None 0
+  pub empty_all : Gives 0xFF no_members None 8
+  pub empty_top : Gives 0x80 no_members None 1
   -- four members: the summary; no word marked, those that hold something, all
   pub own_summary : summary_of four_members ≡ 0x25
-  pub none_marked : Gives 0 four_members none 0
-  pub summary : Gives 0x25 four_members (some 0xAD) 1
-  pub all : Gives 0xFF four_members (some 0xAD) 3
+  pub none_marked : Gives 0 four_members None 0
+  pub summary : Gives 0x25 four_members (Some 0xAD) 1
+  pub all : Gives 0xFF four_members (Some 0xAD) 3
   -- the byte is untrue: word 7 is marked too and is empty; just the words that are empty are marked
-  pub top_empty : Gives 0xA5 four_members (some 0xAD) 2
-  pub only_empty : Gives 0xDA four_members none 5
+  pub top_empty : Gives 0xA5 four_members (Some 0xAD) 2
+  pub only_empty : Gives 0xDA four_members None 5
   -- word 5 has a member and is not marked, nor is word 2 in the second case; in the third, empty words above word 2 are
-  pub left_out : Gives 0x05 four_members (some 0x5F) 1
-  pub left_out_two : Gives 0x03 four_members (some 31) 2
-  pub between : Gives 0x5C four_members (some 0x5F) 4
+  pub left_out : Gives 0x05 four_members (Some 0x5F) 1
+  pub left_out_two : Gives 0x03 four_members (Some 31) 2
+  pub between : Gives 0x5C four_members (Some 0x5F) 4

@@ -2,14 +2,14 @@
 -- worked cases (14.72). Word k of a set has the vectors 32 k to 32 k + 31; word 7 is the top one.
 -- Assumes nothing.
 use Rattle.std.specs.Prelude.{◌≡◌, true, false, List, [], ◌∷◌, map, ℕ, ◌+◌, ◌-◌, ◌*◌, ◌/◌, ◌<◌, ◌≤◌, get_or}
-use Rattle.std.proofs.Math.Option.{Option, none, some}
+use Rattle.std.specs.Prelude.{Option, None, Some}
 use Rattle.vector_set.specs.Bits.{bit_at}
 use Rattle.vector_set.specs.Sets.{has, highest, Words}
 
 -- how many words there are from word 7 down to that of the answer, which counts too; without an answer all eight (2.17)
 abbrev pub words_down_to : Option ℕ → ℕ
-words_down_to none = 8
-words_down_to (some v) = 8 - v / 32
+words_down_to None = 8
+words_down_to (Some v) = 8 - v / 32
 
 -- how many words a search of s reads (2.17)
 unfoldable pub words_read : List ℕ → ℕ
@@ -32,9 +32,9 @@ pub record SearchClaims : Type 0 where
   -- vector 32 k + b is a member exactly if bit b of word k is set (2.17, 13.67)
   pub member_by_bit : (s : List ℕ) (k b : ℕ) → b < 32 → has s (32 * k + b) ≡ bit_at (get_or s k 0) b
   -- an answer is a member, and no member is above it (13.67)
-  pub is_highest : (s : List ℕ) (v : ℕ) → highest s ≡ some v → (v < 256) × (has s v ≡ true) × ((w : ℕ) → w < 256 → v < w → has s w ≡ false)
+  pub is_highest : (s : List ℕ) (v : ℕ) → highest s ≡ Some v → (v < 256) × (has s v ≡ true) × ((w : ℕ) → w < 256 → v < w → has s w ≡ false)
   -- without an answer there is no member (13.67)
-  pub none_is_empty : (s : List ℕ) → highest s ≡ none → (w : ℕ) → w < 256 → has s w ≡ false
+  pub none_is_empty : (s : List ℕ) → highest s ≡ None → (w : ℕ) → w < 256 → has s w ≡ false
   -- at most eight words are read (13.68)
   pub at_most_eight : (s : List ℕ) → words_read s ≤ 8
   -- exactly one, where word 7 is not 0 (13.68)
@@ -68,5 +68,5 @@ searched_sets =
 pub record WorkedSearch : Type 0 where
   pub answers :
       map highest searched_sets
-      ≡ (none ∷ some 0 ∷ some 31 ∷ some 32 ∷ some 0x62 ∷ some 0x80 ∷ some 0xAD ∷ some 0xDF ∷ some 0xE0 ∷ some 0x5F ∷ some 0xFF ∷ [])
+      ≡ (None ∷ Some 0 ∷ Some 31 ∷ Some 32 ∷ Some 0x62 ∷ Some 0x80 ∷ Some 0xAD ∷ Some 0xDF ∷ Some 0xE0 ∷ Some 0x5F ∷ Some 0xFF ∷ [])
   pub numbers : map words_read searched_sets ≡ (8 ∷ 8 ∷ 8 ∷ 7 ∷ 5 ∷ 4 ∷ 3 ∷ 2 ∷ 1 ∷ 6 ∷ 1 ∷ [])

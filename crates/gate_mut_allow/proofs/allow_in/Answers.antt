@@ -1,40 +1,48 @@
--- An unknown vCPU, a list that changes nothing, or the set and what is in flight stored.
-use mathlib.Core.Path.{refl, sym, ap, ◌∙◌}
-use mathlib.Core.List.{[], ◌∷◌}
-use lib.ListN.{get_or}
-use Rattle.model.specs.declared.InFlight.TheVariants as flight
-use Rattle.model.specs.declared.Vcpu.{Vcpu}
+-- An unknown vCPU, a list that is refused or changes nothing, or the set and what is in flight stored.
+use Rattle.std.proofs.Common.{arith, ◌≡◌, ap, ◌∙◌, ℕ, ◌<◌, Ok, Err, Some, None}
 use Rattle.model.specs.declared.Module.{Module}
-use Rattle.model.specs.State.{with_allowed, with_flight}
+use Rattle.model.specs.State.{with_vcpu}
+use Rattle.model.specs.Codes.{Answered}
 use Rattle.model.specs.Events.{allow, at, listed_out}
-use Rattle.vcpu.proofs.Lift.{unknown}
-use Rattle.vcpu_allow.proofs.ListSteps.{list_kept, list_stored}
-use Rattle.gate_mut.proofs.InRow.{unread, is_here, puts_read}
-use Rattle.gate_mut.proofs.Served.{within, beyond, there, off, on}
+use Rattle.gate.proofs.Known.{unstepped}
+use Rattle.gate_mut.proofs.InRow.{put_back}
+use Rattle.vcpu_allow.proofs.ListSteps.{list_step}
 use Rattle.gate_mut_allow.proofs.allow_in.Goals as goal
 
-pub returns-then-n-vcpu : goal.returns-then-n-vcpu
-returns-then-n-vcpu c =
+pub returns-in_err-i : goal.returns-in_err-i
+returns-in_err-i c =
     let a = c.args in
-    sym (unknown a.m.now (at a.vcpu (allow a.values.now a.codes.now)) (beyond a.m.now a.vcpu c.served-n.ensures c.if-n-vcpu.true))
+    let gone : c.from_residual.result ≡ Err c.in_err-i.field-0.0 = grind arith in
+    ap (λ (r : Answered ℕ). listed_out (record { answer = r; after = a.m.now }) a.values.now a.codes.now) gone
+    ∙ unstepped a.m.now (at a.vcpu (allow a.values.now a.codes.now)) c.in_err-i.field-0.0 c.in_err-i.ensures.value
 
-pub returns-then-not-listed : goal.returns-then-not-listed
-returns-then-not-listed c =
+pub returns-in_err-allowed : goal.returns-in_err-allowed
+unfolding with_vcpu
+returns-in_err-allowed c =
     let a = c.args in
-    let m = a.m.now in
-    let l = within m a.vcpu c.served-n.ensures c.if-n-vcpu.false in
-    let r = c.allow_values-listed in
-    list_kept m a.vcpu a.values.now a.codes.now (get_or m.vcpus a.vcpu unread) (is_here m a.vcpu (there m a.vcpu c.fits-m l))
-    r.result r.new.codes l r.ensures (off _ c.if-not-listed.true)
+    let r = c.allow_values in
+    let low : c.in_ok-i.i < 32 = c.in_ok-i.ensures.in_bounds in
+    let gone : c.from_residual-in_err-allowed.result ≡ Err c.in_err-allowed.field-0.0 = grind arith in
+    ap (λ (g : Module). listed_out (record { answer = c.from_residual-in_err-allowed.result; after = g }) a.values.now r.new.codes)
+    (put_back a.m.now c.in_ok-i.i (omega (arith, low)))
+    ∙ ap (λ (s : Answered ℕ). listed_out (record { answer = s; after = a.m.now }) a.values.now r.new.codes) gone
+    ∙ list_step a.m.now a.vcpu a.values.now a.codes.now c.in_ok-i.i _ c.in_ok-i.ensures.value (omega arith)
+    r.result (Err c.in_err-allowed.field-0.0) r.new.codes r.ensures c.in_err-allowed.was
 
-pub returns : goal.returns
-returns c =
+pub returns-in-Some : goal.returns-in-Some
+unfolding with_vcpu
+returns-in-Some c =
     let a = c.args in
-    let m = a.m.now in
-    let l = within m a.vcpu c.served-n.ensures c.if-n-vcpu.false in
-    let at_i = there m a.vcpu c.fits-m l in
-    let u = get_or m.vcpus a.vcpu unread in
-    let r = c.allow_values-listed in
-    ap (λ (g : Module). listed_out (record { outcome = r.result.outcome; after = g }) a.values.now r.new.codes)
-    (puts_read m a.vcpu at_i (λ (v : Vcpu). with_allowed r.result.allowed v) ((λ (v : Vcpu). with_flight flight.Nothing v) ∷ []) _ refl)
-    ∙ list_stored m a.vcpu a.values.now a.codes.now u (is_here m a.vcpu at_i) r.result r.new.codes l r.ensures (on _ c.if-not-listed.false)
+    let r = c.allow_values in
+    list_step a.m.now a.vcpu a.values.now a.codes.now c.in_ok-i.i _ c.in_ok-i.ensures.value (omega arith)
+    r.result (Ok (Some c.in-Some.allowed)) r.new.codes r.ensures (c.in_ok-allowed.was ∙ ap (λ o. Ok o) c.in-Some.is)
+
+pub returns-in_default : goal.returns-in_default
+unfolding with_vcpu
+returns-in_default c =
+    let a = c.args in
+    let r = c.allow_values in
+    let low : c.in_ok-i.i < 32 = c.in_ok-i.ensures.in_bounds in
+    ap (λ (g : Module). listed_out (record { answer = Ok 0; after = g }) a.values.now r.new.codes) (put_back a.m.now c.in_ok-i.i (omega (arith, low)))
+    ∙ list_step a.m.now a.vcpu a.values.now a.codes.now c.in_ok-i.i _ c.in_ok-i.ensures.value (omega arith)
+    r.result (Ok None) r.new.codes r.ensures (c.in_ok-allowed.was ∙ ap (λ o. Ok o) c.in_default.is)

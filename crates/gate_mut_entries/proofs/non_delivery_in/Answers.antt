@@ -1,27 +1,42 @@
--- The record is stepped by value and stored.
-use mathlib.Core.Path.{refl, sym, ap, ◌∙◌}
+-- An unknown vCPU, or the record is stepped by value and stored.
+use Rattle.std.specs.Prelude.{Err}
+use mathlib.Core.Path.{◌≡◌, sym, ap, ◌∙◌}
 use mathlib.Core.List.{[]}
+use native.Mathlib.Omega.{arith}
+use Prim.Native.Nat.{ℕ}
 use lib.ListN.{get_or}
-use Rattle.model.specs.declared.Vcpu.{Vcpu}
-use Rattle.model.specs.declared.Module.{Module}
-use Rattle.model.specs.Events.{non_delivery, at, out_of}
-use Rattle.vcpu.proofs.Lift.{unknown}
-use Rattle.vcpu.proofs.Steps.{returned}
-use Rattle.gate_mut.proofs.InRow.{unread, is_here, puts_row}
-use Rattle.gate_mut.proofs.Served.{within, beyond, there}
+use Rattle.model.specs.State.{with_vcpu}
+use Rattle.model.specs.Codes.{Answered}
+use Rattle.model.specs.Events.{non_delivery, at, step, out_of}
+use Rattle.gate.proofs.Known.{found, unstepped}
+use Rattle.gate_mut.proofs.InRow.{unread, is_here}
+use Rattle.vcpu.proofs.Steps.{below_32, returned, kept}
 use Rattle.gate_mut_entries.proofs.non_delivery_in.Goals as goal
 
-pub returns-then-n-vcpu : goal.returns-then-n-vcpu
-returns-then-n-vcpu c =
+pub returns-in_err-i : goal.returns-in_err-i
+returns-in_err-i c =
     let m = c.args.m.now in
-    sym (unknown m (at c.args.vcpu non_delivery) (beyond m c.args.vcpu c.served-n.ensures c.if-n-vcpu.true))
+    let gone : c.from_residual.result ≡ Err c.in_err-i.field-0.0 = grind arith in
+    ap (λ (r : Answered ℕ). out_of (record { answer = r; after = m }) []) gone
+    ∙ unstepped m (at c.args.vcpu non_delivery) c.in_err-i.field-0.0 (sym c.in_err-i.was ∙ c.index_of.ensures.value)
+
+pub returns-in_err-m : goal.returns-in_err-m
+returns-in_err-m c =
+    let m = c.args.m.now in
+    let i = c.in_ok-i.i in
+    let f = found m c.args.vcpu i (sym c.in_ok-i.was ∙ c.index_of.ensures.value) in
+    let here = is_here m i (omega (arith, below_32 m f.0)) in
+    let gone : c.from_residual-in_err-m.result ≡ Err c.in_err-m.field-0.0 = grind arith in
+    ap (λ (r : Answered ℕ). out_of (record { answer = r; after = m }) []) gone
+    ∙ kept m i f.0 (get_or m.vcpus i unread) here _ []
+    ∙ returned m i f.0 (get_or m.vcpus i unread) here _ c.in_err-m.ensures
+    ∙ ap (λ (k : ℕ). step m (at k non_delivery)) f.1
 
 pub returns : goal.returns
+unfolding with_vcpu
 returns c =
     let m = c.args.m.now in
-    let i = c.args.vcpu in
-    let r = c.non_delivery_vcpu-returned.result in
-    let l = within m i c.served-n.ensures c.if-n-vcpu.false in
-    let at = there m i c.fits-m l in
-    ap (λ (g : Module). out_of (record { outcome = r.outcome; after = g }) []) (puts_row m i at (λ (v : Vcpu). r.vcpu) [] r.vcpu refl)
-    ∙ returned m i l (get_or m.vcpus i unread) (is_here m i at) r c.non_delivery_vcpu-returned.ensures
+    let i = c.in_ok-i.i in
+    let f = found m c.args.vcpu i (sym c.in_ok-i.was ∙ c.index_of.ensures.value) in
+    returned m i f.0 (get_or m.vcpus i unread) (is_here m i (omega (arith, below_32 m f.0))) _ c.in_ok-m.ensures
+    ∙ ap (λ (k : ℕ). step m (at k non_delivery)) f.1

@@ -1,111 +1,105 @@
--- An unknown vCPU, a notice that changes nothing, what is asked for beside its marks, or that and the marks.
+-- An unknown vCPU, a refused notice, nothing announced, what is asked for beside its marks, or that and the marks.
+use Rattle.std.specs.Prelude.{Ok, Err, Some}
 use mathlib.Core.Path.{◌≡◌, sym, ap, subst, ◌∙◌}
-use mathlib.Core.Bool.{◌||◌}
-use mathlib.Core.List.{List, [], ◌∷◌}
+use native.Mathlib.Omega.{arith}
+use borrow.Author.Rules.{rules}
 use Prim.Native.Nat.{ℕ}
 use lib.Bits.{bit_or}
-use lib.ListN.{get_or, set}
-use Rattle.vector_set.specs.Sets.{union}
+use lib.ListN.{get_or}
 use Rattle.vector_set.specs.Summaries.{summary_of}
-use Rattle.model.specs.declared.Admission.TheVariants.{Items}
 use Rattle.model.specs.declared.Vcpu.{Vcpu}
-use Rattle.model.specs.declared.Module.{Module}
-use Rattle.model.specs.State.{with_irr, with_irr_level, with_nmi, with_machine_check, with_summary}
-use Rattle.model.specs.Events.{notice, at, noticed_out}
-use Rattle.descriptor.specs.declared.Requested.{Requested}
-use Rattle.vcpu.specs.Notices.{marks_counted}
-use Rattle.vcpu.proofs.Lift.{unknown}
-use Rattle.vcpu_pages.proofs.Adds.{Fits, added, counts}
-use Rattle.vcpu_pages.proofs.Steps.{notice_kept, notice_one, marks_asked, notice_many}
-use Rattle.gate_mut.proofs.Sized.{Sized, sized}
-use Rattle.gate_mut.proofs.InRow.{unread, changes, is_here, puts_read, read_row}
-use Rattle.gate_mut.proofs.Served.{within, beyond, has_record, there, off, on}
+use Rattle.model.specs.declared.Counts.{Counts}
+use Rattle.model.specs.Codes.{Answered}
+use Rattle.model.specs.State.{with_vcpu, with_summary}
+use Rattle.model.specs.Events.{notice, at, step, noticed_out}
+use Rattle.descriptor.specs.Requests.{Asked}
+use Rattle.gate.proofs.Known.{found, unstepped}
+use Rattle.vcpu.proofs.Steps.{below_32}
+use Rattle.vcpu_pages.proofs.Adds.{Fits, added}
+use Rattle.vcpu_pages.proofs.Steps.{taken_refused, notice_kept, notice_one, marks_asked, notice_many}
+use Rattle.gate_mut.proofs.Sized.{Sized, sized, of_record}
+use Rattle.gate_mut.proofs.InRow.{unread, is_here}
+use Rattle.gate_mut.proofs.Served.{off, on}
 use Rattle.gate_mut_pages.proofs.notice_in.Goals as goal
 
 -- what a record is, of what stands there
 fits_of : (v : Vcpu) → Sized v → Fits v
 fits_of v f = record { irr_words = f.pending; level_words = f.pending_level; byte = f.small }
 
--- the five stores of what is asked for, of which the summary's byte is s
-abbrev asked_first : Requested → Vcpu → Vcpu
-asked_first r v = with_irr (set v.irr r.posting.word (bit_or (get_or v.irr r.posting.word 0) r.posting.bits)) v
-
-abbrev asked_then : Requested → Vcpu → ℕ → List (Vcpu → Vcpu) → List (Vcpu → Vcpu)
-asked_then r u s fs =
-    (λ (v : Vcpu). with_irr_level (set v.irr_level r.posting.word (bit_or (get_or v.irr_level r.posting.word 0) r.level)) v)
-    ∷ (λ (v : Vcpu). with_nmi (u.nmi || r.posting.nmi) v)
-    ∷ (λ (v : Vcpu). with_machine_check (u.machine_check || r.posting.machine_check) v)
-    ∷ (λ (v : Vcpu). with_summary (bit_or u.summary s) v)
-    ∷ fs
-
-pub returns-then-n-vcpu : goal.returns-then-n-vcpu
-returns-then-n-vcpu c =
+pub returns-in_err-i : goal.returns-in_err-i
+returns-in_err-i c =
     let a = c.args in
-    sym (unknown a.m.now (at a.vcpu (notice a.page.now)) (beyond a.m.now a.vcpu c.served-n.ensures c.if-n-vcpu.true))
+    let gone : c.from_residual.result ≡ Err c.in_err-i.field-0.0 = grind arith in
+    ap (λ (r : Answered Counts). noticed_out (record { answer = r; after = a.m.now }) a.page.now) gone
+    ∙ unstepped a.m.now (at a.vcpu (notice a.page.now)) c.in_err-i.field-0.0 c.in_err-i.ensures.value
 
-pub returns-then-not-taken : goal.returns-then-not-taken
-returns-then-not-taken c =
+pub returns-in_err-requested : goal.returns-in_err-requested
+returns-in_err-requested c =
     let a = c.args in
     let m = a.m.now in
-    let i = a.vcpu in
-    let l = within m i c.served-n.ensures c.if-n-vcpu.false in
-    let here = is_here m i (there m i c.fits-m l) in
-    let u = get_or m.vcpus i unread in
-    let fit = fits_of u (subst Sized (sym here) (sized m c.fits-m i (has_record m i l))) in
-    notice_kept m i l u here a.page.now c.take-taken.new.page c.take-taken.result c.take-taken.ensures (off _ c.if-not-taken.true) fit
+    let i = c.in_ok-i.i in
+    let f = found m a.vcpu i c.in_ok-i.ensures.value in
+    let gone : c.from_residual-in_err-requested.result ≡ Err c.in_err-requested.field-0.0 = grind arith in
+    ap (λ (r : Answered Counts). noticed_out (record { answer = r; after = m }) c.take.new.page) gone
+    ∙ taken_refused m i f.0 (get_or m.vcpus i unread) (is_here m i (omega (arith, below_32 m f.0))) a.page.now c.take.new.page c.take.result c.take.ensures
+    _ c.in_err-requested.was
+    ∙ ap (λ (k : ℕ). step m (at k (notice a.page.now))) f.1
 
-pub returns-then-not-taken-2 : goal.returns-then-not-taken-2
-returns-then-not-taken-2 c =
+pub returns-in_default : goal.returns-in_default
+returns-in_default c =
     let a = c.args in
     let m = a.m.now in
-    let i = a.vcpu in
-    let l = within m i c.served-n.ensures c.if-n-vcpu.false in
-    let at_i = there m i c.fits-m l in
-    let here = is_here m i at_i in
+    let i = c.in_ok-i.i in
+    let f = found m a.vcpu i c.in_ok-i.ensures.value in
+    let here = is_here m i (omega (arith, below_32 m f.0)) in
     let u = get_or m.vcpus i unread in
-    let fit = fits_of u (subst Sized (sym here) (sized m c.fits-m i (has_record m i l))) in
-    let r = c.take-taken.result.requested in
-    let s = c.summary_of.result in
-    let n = c.counts_of-c.result in
-    ap (λ (g : Module). noticed_out (record { admission = Items n.new n.merged; after = g }) c.take-taken.new.page)
-    (puts_read m i at_i (asked_first r) (asked_then r u s []) (added u r)
-    (ap (λ (b : ℕ). with_summary (bit_or u.summary b) (added u r)) c.summary_of.ensures))
-    ∙ notice_one m i l u here a.page.now c.take-taken.new.page c.take-taken.result c.take-taken.ensures (on _ c.if-not-taken.false)
-    (off _ c.if-not-taken-2.true) fit n c.counts_of-c.ensures
+    let fit = fits_of u (subst Sized (sym here) (sized m c.type_inv.m i (below_32 m f.0))) in
+    notice_kept m i f.0 u here a.page.now c.take.new.page c.take.result c.take.ensures fit (c.in_ok-requested.was ∙ ap Ok c.in_default.is)
+    ∙ ap (λ (k : ℕ). step m (at k (notice a.page.now))) f.1
+
+pub returns-then-not-requested : goal.returns-then-not-requested
+unfolding with_vcpu
+returns-then-not-requested c =
+    let a = c.args in
+    let m = a.m.now in
+    let i = c.in_ok-i.i in
+    let f = found m a.vcpu i c.in_ok-i.ensures.value in
+    let here = is_here m i (omega (arith, below_32 m f.0)) in
+    let u = get_or m.vcpus i unread in
+    let fit = fits_of u (of_record u (search rules)) in
+    let r = c.requested in
+    let x : Asked = record { posting = r.inside.posting; level = r.inside.level; many = r.inside.many } in
+    let n = c.counts_of.result in
+    ap (λ (b : ℕ). noticed_out (record { answer = Ok n; after = with_vcpu m i (with_summary (bit_or u.summary b) (added u x)) }) c.take.new.page)
+    c.summary_of.ensures
+    ∙ notice_one m i f.0 u here a.page.now c.take.new.page c.take.result c.take.ensures x
+    (c.in_ok-requested.was ∙ ap Ok (c.in-Some.is ∙ ap Some (sym r.view_is))) r.invariant fit (off _ c.if-not-requested.true) n c.counts_of.ensures
+    ∙ ap (λ (k : ℕ). step m (at k (notice a.page.now))) f.1
 
 pub take_marks-edge-requires : goal.take_marks-edge-requires
 take_marks-edge-requires c =
     let a = c.args in
     let m = a.m.now in
-    let i = a.vcpu in
-    let l = within m i c.served-n.ensures c.if-n-vcpu.false in
-    marks_asked m i l (get_or m.vcpus i unread) (is_here m i (there m i c.fits-m l)) a.page.now c.take-taken.new.page c.take-taken.result
-    c.take-taken.ensures (on _ c.if-not-taken.false) (on _ c.if-not-taken-2.false)
+    let i = c.in_ok-i.i in
+    let f = found m a.vcpu i c.in_ok-i.ensures.value in
+    marks_asked m i f.0 (get_or m.vcpus i unread) (is_here m i (omega (arith, below_32 m f.0))) a.page.now c.take.new.page c.take.result c.take.ensures _
+    (c.in_ok-requested.was ∙ ap Ok c.in-Some.is) (ap (λ (x : Asked). x.many) (sym c.requested.view_is) ∙ on _ c.if-not-requested.false)
 
 pub returns : goal.returns
+unfolding with_vcpu
 returns c =
     let a = c.args in
     let m = a.m.now in
-    let i = a.vcpu in
-    let l = within m i c.served-n.ensures c.if-n-vcpu.false in
-    let at_i = there m i c.fits-m l in
-    let here = is_here m i at_i in
+    let i = c.in_ok-i.i in
+    let f = found m a.vcpu i c.in_ok-i.ensures.value in
+    let here = is_here m i (omega (arith, below_32 m f.0)) in
     let u = get_or m.vcpus i unread in
-    let fit = fits_of u (subst Sized (sym here) (sized m c.fits-m i (has_record m i l))) in
-    let r = c.take-taken.result.requested in
-    let s = c.summary_of.result in
-    let e = c.take_marks-edge.result in
-    let n = c.count_marks-c.result in
-    let p = c.union.result in
-    let x = c.mark_words.result in
-    let asked : changes (asked_first r ∷ asked_then r u s []) u ≡ added u r =
-    ap (λ (b : ℕ). with_summary (bit_or u.summary b) (added u r)) c.summary_of.ensures in
-    let read = read_row m i at_i (asked_first r) (asked_then r u s []) ∙ asked in
-    ap (λ (g : Module). noticed_out (record { admission = Items n.new n.merged; after = g }) c.take_marks-edge.new.page)
-    (puts_read m i at_i (asked_first r) (asked_then r u s ((λ (v : Vcpu). with_irr p v) ∷ (λ (v : Vcpu). with_summary x v) ∷ []))
-    (with_summary x (with_irr p (added u r))) (ap (λ (v : Vcpu). with_summary x (with_irr p v)) asked))
-    ∙ notice_many m i l u here a.page.now c.take-taken.new.page c.take-taken.result c.take-taken.ensures (on _ c.if-not-taken.false)
-    (on _ c.if-not-taken-2.false) fit e c.take_marks-edge.new.page c.take_marks-edge.ensures.0 c.take_marks-edge.ensures.1 n
-    (c.count_marks-c.ensures ∙ ap (λ (v : Vcpu). marks_counted (counts u r) e v.irr) read) p
-    (c.union.ensures ∙ ap (λ (v : Vcpu). union v.irr e) read) x
-    (c.mark_words.ensures ∙ ap (λ (b : ℕ). bit_or (bit_or u.summary b) (summary_of e)) c.summary_of.ensures)
+    let fit = fits_of u (of_record u (search rules)) in
+    let r = c.requested in
+    let x : Asked = record { posting = r.inside.posting; level = r.inside.level; many = r.inside.many } in
+    let e = c.take_marks-edge in
+    notice_many m i f.0 u here a.page.now c.take.new.page c.take.result c.take.ensures x
+    (c.in_ok-requested.was ∙ ap Ok (c.in-Some.is ∙ ap Some (sym r.view_is))) (on _ c.if-not-requested.false) r.invariant fit
+    e.result e.new.page e.ensures.0 e.ensures.1 c.count_marks.result c.count_marks.ensures c.union-w.result c.union-w.ensures c.mark_words-w.result
+    (c.mark_words-w.ensures ∙ ap (λ (b : ℕ). bit_or (bit_or u.summary b) (summary_of e.result)) c.summary_of.ensures)
+    ∙ ap (λ (k : ℕ). step m (at k (notice a.page.now))) f.1

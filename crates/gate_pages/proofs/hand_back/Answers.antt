@@ -1,36 +1,39 @@
 -- An unknown vCPU, a refused hand-back, or the page and the step of the record.
-use mathlib.Core.Path.{sym, ap, ◌∙◌}
-use Rattle.model.specs.declared.Outcome.{Outcome}
+use Rattle.std.specs.Prelude.{Ok, Err}
+use mathlib.Core.Path.{refl, ap, ◌∙◌}
+use Prim.Native.Nat.{ℕ}
 use Rattle.model.specs.declared.Stepped.{Stepped}
-use Rattle.model.specs.Codes.{result_of, accepted}
 use Rattle.model.specs.State.{with_vcpu}
-use Rattle.model.specs.Events.{hand_back, at, out_of}
-use Rattle.vcpu.proofs.Lift.{unknown}
-use Rattle.gate.proofs.Known.{known, not_known}
+use Rattle.model.specs.Events.{hand_back, at, step, out_of}
+use Rattle.gate.proofs.Known.{found, unstepped}
 use Rattle.vcpu.proofs.Steps.{below_32, records_32, record_is}
-use Rattle.vcpu_pages.proofs.Steps.{hand_back_kept, handed_back_lem}
+use Rattle.vcpu_pages.proofs.Steps.{hand_back_refused, handed_back}
 use Rattle.gate_pages.proofs.hand_back.Goals as goal
 
-pub returns-then-lacks : goal.returns-then-lacks
-returns-then-lacks c =
+pub returns-in-Err : goal.returns-in-Err
+returns-in-Err c =
     let a = c.args in
-    ap (λ (r : Stepped). out_of r a.page.now) c.unknown.ensures
-    ∙ sym (unknown a.m (at a.vcpu (hand_back a.page.now a.iflag a.shadow)) (not_known a.m a.vcpu c.lacks.ensures c.if-lacks.true))
+    ap (λ (r : Stepped ℕ). out_of r a.page.now) c.refused.ensures
+    ∙ unstepped a.m (at a.vcpu (hand_back a.page.now a.iflag a.shadow)) c.in-Err.c c.in-Err.ensures.value
 
-pub returns-in_default : goal.returns-in_default
-returns-in_default c =
-    let a = c.args in
-    let h = known a.m a.vcpu c.lacks.ensures c.if-lacks.false in
-    let r = c.hand_over-outcome in
-    hand_back_kept a.m a.vcpu h _ (record_is a.m a.vcpu _ (below_32 a.m h) (records_32 a.m _ c.well_formed.0))
-    a.page.now r.new.page a.iflag a.shadow r.result r.ensures (ap (λ (o : Outcome). accepted (result_of o)) c.in_default.is)
-
-pub returns : goal.returns
+pub returns-in-Ok-hand_over : goal.returns-in-Ok-hand_over
 unfolding with_vcpu
-returns c =
+returns-in-Ok-hand_over c =
     let a = c.args in
-    let h = known a.m a.vcpu c.lacks.ensures c.if-lacks.false in
-    let r = c.hand_over-outcome in
-    handed_back_lem a.m a.vcpu h _ (record_is a.m a.vcpu _ (below_32 a.m h) (records_32 a.m _ c.well_formed.0))
-    a.page.now r.new.page a.iflag a.shadow r.result r.ensures (ap (λ (o : Outcome). accepted (result_of o)) c.in-Done.is)
-    c.empty_vcpu-w.result c.empty_vcpu-w.ensures
+    let i = c.in-Ok.i in
+    let f = found a.m a.vcpu i c.in-Ok.ensures.value in
+    let e = c.in-Ok-hand_over in
+    handed_back a.m i f.0 _ (record_is a.m i _ (below_32 a.m f.0) (records_32 a.m _ c.well_formed.0)) a.page.now c.hand_over.new.page
+    a.iflag a.shadow (Ok e.value) e.ensures e.value refl c.empty_vcpu.result c.empty_vcpu.ensures
+    ∙ ap (λ (k : ℕ). step a.m (at k (hand_back a.page.now a.iflag a.shadow))) f.1
+
+pub returns-in-Err-hand_over : goal.returns-in-Err-hand_over
+returns-in-Err-hand_over c =
+    let a = c.args in
+    let i = c.in-Ok.i in
+    let f = found a.m a.vcpu i c.in-Ok.ensures.value in
+    let e = c.in-Err-hand_over in
+    ap (λ (r : Stepped ℕ). out_of r c.hand_over.new.page) c.refused-in-Err-hand_over.ensures
+    ∙ hand_back_refused a.m i f.0 _ (record_is a.m i _ (below_32 a.m f.0) (records_32 a.m _ c.well_formed.0)) a.page.now c.hand_over.new.page
+    a.iflag a.shadow (Err e.c) e.ensures e.c refl
+    ∙ ap (λ (k : ℕ). step a.m (at k (hand_back a.page.now a.iflag a.shadow))) f.1

@@ -6,7 +6,7 @@ use Prim.Native.Nat.{ℕ, ◌≤◌}
 use lib.Dec.{leb}
 use borrow.Author.Tests.{leb-true}
 use Rattle.model.specs.declared.Module.{Module}
-use Rattle.model.specs.declared.Outcome.TheVariants.{Done, Refused}
+use Rattle.std.specs.Prelude.{Ok, Err}
 use Rattle.model.specs.declared.Refusal.TheVariants.{BadStart}
 use Rattle.model.specs.State.{may_start, start}
 use Rattle.model.specs.Events.{start_result, do_start, out_of}
@@ -35,11 +35,11 @@ started-requires c =
 
 pub returns-then-may_start : goal.returns-then-may_start
 unfolding do_start start_result start
-returns-then-may_start c = rw (accepted c.before) (ap (λ (m : Module). out_of (record { outcome = Done 0; after = m }) []) c.started.ensures)
+returns-then-may_start c = rw (accepted c.before) (ap (λ (m : Module). out_of (record { answer = Ok 0; after = m }) []) c.started.ensures)
 
 pub returns : goal.returns
 unfolding do_start start_result start
 returns c =
     let a = c.args in
     let e : may_start a.n a.vmpl ≡ false = sym c.may_start.ensures ∙ c.if-may_start.false in
-    rw e (ap (λ (m : Module). out_of (record { outcome = Refused BadStart; after = m }) []) c.stopped.ensures)
+    rw e (ap (λ (m : Module). out_of (record { answer = Err BadStart; after = m }) []) c.stopped.ensures)

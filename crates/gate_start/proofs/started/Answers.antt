@@ -1,38 +1,17 @@
--- `gate_start::started` meets its contract. The loop's invariant: k fresh records, and absent ones behind them. Assumes nothing.
-use mathlib.Core.Path.{◌≡◌, refl, ap, ap₂, ◌∙◌}
-use mathlib.Core.List.{List, ◌∷◌, ◌++◌}
-use Prim.Native.Nat.{ℕ, zero, suc, ◌+◌, ◌-◌, ◌<◌}
-use native.Mathlib.Numerals.{add-one}
-use native.Mathlib.Omega.{arith}
-use lib.ListN.{set, replicate}
+-- `gate_start::started` meets its contract: the places below n are filled, those behind them are the absent record's. Assumes nothing.
+use Rattle.std.proofs.Common.{rules, ◌≡◌, [], ◌≤◌, ℕ, ◌+◌, ◌-◌, length, List, ◌∷◌, ◌++◌}
+use Rattle.std.specs.Prelude.{drop, replicate}
+use Rattle.std.proofs.lemmas.List.{drop-replicate, length-take-le}
+use mathlib.Core.Path.{sym, ap, ap₂, ◌∙◌}
 use Rattle.model.specs.declared.Vcpu.{Vcpu}
-use Rattle.model.specs.State.{absent, started}
+use Rattle.model.specs.State.{absent, bare, started}
 use Rattle.gate_start.proofs.started.Goals as goal
-
-module _ (v w : Vcpu) where
-  one_more : (k j : ℕ) → set (replicate k v ++ replicate (suc j) w) k v ≡ replicate (suc k) v ++ replicate j w
-  one_more zero j = refl
-  one_more (suc k) j = ap (λ (l : List Vcpu). v ∷ l) (one_more k j)
-
-  more : (k : ℕ) → k < 32 → set (replicate k v ++ replicate (32 - k) w) k v ≡ replicate (k + 1) v ++ replicate (32 - (k + 1)) w
-  more k h =
-      let e : 32 - k ≡ suc (32 - (k + 1)) = omega arith in
-      rw (e, add-one k) (one_more k (32 - suc k))
-
-pub loop-k-preserved : goal.loop-k-preserved
-loop-k-preserved c =
-    let k = c.loop-k.k in
-    let v = c.bare-fresh.result in
-    (omega arith, ap (λ (l : List Vcpu). set l k v) c.loop-k.invariant.1 ∙ more v absent k (omega arith))
 
 pub returns : goal.returns
 unfolding started
 returns c =
-    let a = c.args in
-    let e : c.loop-k.k ≡ a.n = omega arith in
-    ap (λ (l : List Vcpu). record { n = a.n; vmpl = a.vmpl; registrations = 1; vcpus = l })
-    (c.loop-k.invariant.1
-    ∙ ap₂ (λ (k : ℕ) (v : Vcpu). replicate k v ++ replicate (32 - k) absent) e c.bare-fresh.ensures)
-
-pub loop-k-init : goal.loop-k-init
-loop-k-init c = (omega arith, ap (λ (v : Vcpu). replicate 32 v) c.bare-absent.ensures)
+    let n = c.args.n in
+    ap (λ (l : List Vcpu). record { n = n; vmpl = c.args.vmpl; registrations = 1; vcpus = l })
+    (ap₂ (λ (a b : List Vcpu). a ++ b) (c.fill.ensures.after (λ y e. search rules)
+    ∙ ap₂ (λ (k : ℕ) (v : Vcpu). replicate k v) (length-take-le n (replicate 32 c.bare-absent.result) c.requires) c.bare.ensures)
+    (ap (λ (v : Vcpu). drop n (replicate 32 v)) c.bare-absent.ensures ∙ drop-replicate n 32 absent))

@@ -1,12 +1,7 @@
--- `ipi::bit_of` meets its contract. Assumes nothing.
-use native.Mathlib.Omega.{arith}
-use borrow.Author.Tests.{ne_eqb}
-use mathlib.Core.Path.{◌≡◌}
-use Rattle.ipi.proofs.Masks.{mask_alone, mask_none}
+-- `ipi::bit_of` meets its contract: a shift by 32 and more has no bit. Assumes nothing.
+use mathlib.Core.Path.{◌∙◌}
+use Rattle.ipi.proofs.Masks.{mask_shift}
 use Rattle.ipi.proofs.bit_of.Goals as goal
 
-pub returns-then-k-ge32 : goal.returns-then-k-ge32
-returns-then-k-ge32 c = mask_none _ (λ b l. ne_eqb b c.args.k (λ (q : b ≡ c.args.k). omega (arith, c.if-k-ge32.true)))
-
 pub returns : goal.returns
-returns c = mask_alone c.args.k c.if-k-ge32.false
+returns c = c.unwrap_or.ensures ∙ mask_shift c.args.k _ c.checked_shl.ensures

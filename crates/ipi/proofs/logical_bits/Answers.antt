@@ -10,4 +10,4 @@ pub returns-in-1 : goal.returns-in-1
 returns-in-1 c = mask_high c.args.d c.in-1.is
 
 pub returns-in_default : goal.returns-in_default
-returns-in_default c = let n = c.in_default.in_default-own.rest in mask_far c.args.d (omega (arith, n.0.1, n.1))
+returns-in_default c = mask_far c.args.d (omega arith)

@@ -1,44 +1,37 @@
--- A test that holds gives the name, one that fails leaves the names after it.
-use mathlib.Core.Path.{sym, ◌∙◌}
-use Rattle.trace.specs.Lines.{name_in}
+-- Where the bytes that were tested are those of no name.
+use Rattle.std.proofs.Common.{arith}
+use Rattle.trace.proofs.Names.{unknown}
 use Rattle.trace.proofs.name_of.Goals as goal
 
-pub returns-then-is : goal.returns-then-is
-unfolding name_in
-returns-then-is c = rw (sym c.is.ensures ∙ c.if-is.true)
+pub returns-in_default : goal.returns-in_default
+returns-in_default c = unknown c.args.word.now (λ s. omega arith) (λ s. omega arith) (λ s. omega arith) (λ s. omega arith) (λ s. omega arith) (λ s. omega arith) (λ s. omega arith) (λ s. omega arith) (λ s. omega arith)
 
-pub returns-then-is-2 : goal.returns-then-is-2
-unfolding name_in
-returns-then-is-2 c = rw (sym c.is.ensures ∙ c.if-is.false, sym c.is-2.ensures ∙ c.if-is-2.true)
+pub returns-in_default-22 : goal.returns-in_default-22
+returns-in_default-22 c = unknown c.args.word.now (λ s. omega arith) (λ s. omega arith) (λ s. omega arith) (λ s. omega arith) (λ s. omega arith) (λ s. omega arith) (λ s. omega arith) (λ s. omega arith) (λ s. omega arith)
 
-pub returns-then-is-3 : goal.returns-then-is-3
-unfolding name_in
-returns-then-is-3 c = rw (sym c.is.ensures ∙ c.if-is.false, sym c.is-2.ensures ∙ c.if-is-2.false, sym c.is-3.ensures ∙ c.if-is-3.true)
+pub returns-in_default-27 : goal.returns-in_default-27
+returns-in_default-27 c = unknown c.args.word.now (λ s. omega arith) (λ s. omega arith) (λ s. omega arith) (λ s. omega arith) (λ s. omega arith) (λ s. omega arith) (λ s. omega arith) (λ s. omega arith) (λ s. omega arith)
 
-pub returns-then-is-4 : goal.returns-then-is-4
-unfolding name_in
-returns-then-is-4 c = rw (sym c.is.ensures ∙ c.if-is.false, sym c.is-2.ensures ∙ c.if-is-2.false, sym c.is-3.ensures ∙ c.if-is-3.false, sym c.is-4.ensures ∙ c.if-is-4.true)
+pub returns-in_default-28 : goal.returns-in_default-28
+returns-in_default-28 c = unknown c.args.word.now (λ s. omega arith) (λ s. omega arith) (λ s. omega arith) (λ s. omega arith) (λ s. omega arith) (λ s. omega arith) (λ s. omega arith) (λ s. omega arith) (λ s. omega arith)
 
-pub returns-then-is-5 : goal.returns-then-is-5
-unfolding name_in
-returns-then-is-5 c = rw (sym c.is.ensures ∙ c.if-is.false, sym c.is-2.ensures ∙ c.if-is-2.false, sym c.is-3.ensures ∙ c.if-is-3.false, sym c.is-4.ensures ∙ c.if-is-4.false, sym c.is-5.ensures ∙ c.if-is-5.true)
+pub returns-in_default-29 : goal.returns-in_default-29
+returns-in_default-29 c = unknown c.args.word.now (λ s. omega arith) (λ s. omega arith) (λ s. omega arith) (λ s. omega arith) (λ s. omega arith) (λ s. omega arith) (λ s. omega arith) (λ s. omega arith) (λ s. omega arith)
 
-pub returns-then-is-6 : goal.returns-then-is-6
-unfolding name_in
-returns-then-is-6 c = rw (sym c.is.ensures ∙ c.if-is.false, sym c.is-2.ensures ∙ c.if-is-2.false, sym c.is-3.ensures ∙ c.if-is-3.false, sym c.is-4.ensures ∙ c.if-is-4.false, sym c.is-5.ensures ∙ c.if-is-5.false, sym c.is-6.ensures ∙ c.if-is-6.true)
+pub returns-in_default-37 : goal.returns-in_default-37
+returns-in_default-37 c = unknown c.args.word.now (λ s. omega arith) (λ s. omega arith) (λ s. omega arith) (λ s. omega arith) (λ s. omega arith) (λ s. omega arith) (λ s. omega arith) (λ s. omega arith) (λ s. omega arith)
 
-pub returns-then-is-7 : goal.returns-then-is-7
-unfolding name_in
-returns-then-is-7 c = rw (sym c.is.ensures ∙ c.if-is.false, sym c.is-2.ensures ∙ c.if-is-2.false, sym c.is-3.ensures ∙ c.if-is-3.false, sym c.is-4.ensures ∙ c.if-is-4.false, sym c.is-5.ensures ∙ c.if-is-5.false, sym c.is-6.ensures ∙ c.if-is-6.false, sym c.is-7.ensures ∙ c.if-is-7.true)
+pub returns-in_default-38 : goal.returns-in_default-38
+returns-in_default-38 c = unknown c.args.word.now (λ s. omega arith) (λ s. omega arith) (λ s. omega arith) (λ s. omega arith) (λ s. omega arith) (λ s. omega arith) (λ s. omega arith) (λ s. omega arith) (λ s. omega arith)
 
-pub returns-then-is-8 : goal.returns-then-is-8
-unfolding name_in
-returns-then-is-8 c = rw (sym c.is.ensures ∙ c.if-is.false, sym c.is-2.ensures ∙ c.if-is-2.false, sym c.is-3.ensures ∙ c.if-is-3.false, sym c.is-4.ensures ∙ c.if-is-4.false, sym c.is-5.ensures ∙ c.if-is-5.false, sym c.is-6.ensures ∙ c.if-is-6.false, sym c.is-7.ensures ∙ c.if-is-7.false, sym c.is-8.ensures ∙ c.if-is-8.true)
+pub returns-in_default-47 : goal.returns-in_default-47
+returns-in_default-47 c = unknown c.args.word.now (λ s. omega arith) (λ s. omega arith) (λ s. omega arith) (λ s. omega arith) (λ s. omega arith) (λ s. omega arith) (λ s. omega arith) (λ s. omega arith) (λ s. omega arith)
 
-pub returns-then-is-9 : goal.returns-then-is-9
-unfolding name_in
-returns-then-is-9 c = rw (sym c.is.ensures ∙ c.if-is.false, sym c.is-2.ensures ∙ c.if-is-2.false, sym c.is-3.ensures ∙ c.if-is-3.false, sym c.is-4.ensures ∙ c.if-is-4.false, sym c.is-5.ensures ∙ c.if-is-5.false, sym c.is-6.ensures ∙ c.if-is-6.false, sym c.is-7.ensures ∙ c.if-is-7.false, sym c.is-8.ensures ∙ c.if-is-8.false, sym c.is-9.ensures ∙ c.if-is-9.true)
+pub returns-in_default-48 : goal.returns-in_default-48
+returns-in_default-48 c = unknown c.args.word.now (λ s. omega arith) (λ s. omega arith) (λ s. omega arith) (λ s. omega arith) (λ s. omega arith) (λ s. omega arith) (λ s. omega arith) (λ s. omega arith) (λ s. omega arith)
 
-pub returns : goal.returns
-unfolding name_in
-returns c = rw (sym c.is.ensures ∙ c.if-is.false, sym c.is-2.ensures ∙ c.if-is-2.false, sym c.is-3.ensures ∙ c.if-is-3.false, sym c.is-4.ensures ∙ c.if-is-4.false, sym c.is-5.ensures ∙ c.if-is-5.false, sym c.is-6.ensures ∙ c.if-is-6.false, sym c.is-7.ensures ∙ c.if-is-7.false, sym c.is-8.ensures ∙ c.if-is-8.false, sym c.is-9.ensures ∙ c.if-is-9.false)
+pub returns-in_default-49 : goal.returns-in_default-49
+returns-in_default-49 c = unknown c.args.word.now (λ s. omega arith) (λ s. omega arith) (λ s. omega arith) (λ s. omega arith) (λ s. omega arith) (λ s. omega arith) (λ s. omega arith) (λ s. omega arith) (λ s. omega arith)
+
+pub returns-in_default-50 : goal.returns-in_default-50
+returns-in_default-50 c = unknown c.args.word.now (λ s. omega arith) (λ s. omega arith) (λ s. omega arith) (λ s. omega arith) (λ s. omega arith) (λ s. omega arith) (λ s. omega arith) (λ s. omega arith) (λ s. omega arith)

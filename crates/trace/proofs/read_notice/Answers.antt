@@ -1,34 +1,12 @@
--- `trace::read_notice` meets its contract: the arguments that were read make the event, and the words that follow tell its page.
-use mathlib.Core.Path.{sym, ◌∙◌}
-use native.Mathlib.Omega.{arith}
-use lib.Dec.{lit<}
-use Rattle.trace.specs.Pages.{zeros}
-use Rattle.trace.specs.Lines.{applied, notice}
-use Rattle.trace.proofs.Cells.{refilled}
-use Rattle.trace.proofs.Events.{filled, paged_told, paged_garbled}
+-- The words behind the arguments tell the page.
+use Rattle.std.proofs.Common.{refl, sym, ap, ◌∙◌, List, ℕ}
+use Rattle.trace.specs.Words.{words}
+use Rattle.trace.specs.Pages.{zeros, fill}
+use Rattle.trace.proofs.Events.{rest_drop}
 use Rattle.trace.proofs.read_notice.Goals as goal
 
-pub fill-requires : goal.fill-requires
-fill-requires c =
-    let a = c.arguments_at-a.ensures in record { at_in_bounds = a.next; long_bound = a.small c.if-a.true 1 (lit< tt) }
-
-pub overflow_cast-result : goal.overflow_cast-result
-overflow_cast-result c = omega (arith, c.arguments_at-a.ensures.small c.if-a.true 0 (lit< tt))
-
-pub returns-then-fill : goal.returns-then-fill
-unfolding notice applied
-returns-then-fill c =
-    let a = c.arguments_at-a.ensures in
-    record {
-      value = paged_told _ _ _ c.fill.ensures _ c.if-fill.true ∙ sym (a.made c.if-a.true _);
-      page_is = (a.small c.if-a.true 1 (lit< tt), sym (refilled _ zeros _ _ (a.rests c.if-a.true)) ∙ filled _ _ _ c.fill.ensures c.if-fill.true);
-    }
-
-pub returns-else-fill : goal.returns-else-fill
-unfolding notice applied
-returns-else-fill c =
-    let a = c.arguments_at-a.ensures in record { value = paged_garbled _ _ _ c.fill.ensures _ c.if-fill.false ∙ sym (a.made c.if-a.true _); page_is = tt }
-
-pub returns-else-a : goal.returns-else-a
-unfolding notice
-returns-else-a c = record { value = sym (c.arguments_at-a.ensures.unmade c.if-a.false _); page_is = tt }
+pub returns-clause-page_is : goal.returns-clause-page_is
+returns-clause-page_is c =
+    let ws = words c.args.line.left.now in
+    let e = rest_drop 1 ws _ _ (rest_drop 0 ws _ _ refl c.number32.ensures.others) c.number.ensures.others in
+    (c.in_ok-length.ensures.upper_bound, sym (ap (λ (us : List (List ℕ)). fill c.in_ok-length.length us zeros) e) ∙ c.in_ok-fill.ensures)

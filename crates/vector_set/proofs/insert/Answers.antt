@@ -1,7 +1,7 @@
 -- The word of v gains the bit of v.
 use Rattle.std.proofs.Common.{arith}
-use Rattle.vector_set.proofs.WordLaws.{array_words, insert_word}
+use Rattle.vector_set.proofs.WordLaws.{array_words, insert_bit}
 use Rattle.vector_set.proofs.insert.Goals as goal
 
 pub returns : goal.returns
-returns c = insert_word c.args.s c.args.v (array_words c.args.s _ c.well_formed.0) (omega arith)
+returns c = rw (c.word_of.ensures, c.bit_of.ensures) (insert_bit c.args.s c.args.v (array_words c.args.s _ c.well_formed.0) (omega arith))

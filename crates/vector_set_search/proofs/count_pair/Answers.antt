@@ -15,4 +15,4 @@ side_by_side low high l h =
     ∙ ap ones (or_shifted high 32 low l) ∙ ones_cat 32 high low l ∙ add_comm (ones high) (ones low)
 
 pub returns : goal.returns
-returns c = side_by_side c.args.low c.args.high (omega arith) (omega arith)
+returns c = rw (c.from.ensures, c.from-2.ensures) (side_by_side c.args.low c.args.high (omega arith) (omega arith))

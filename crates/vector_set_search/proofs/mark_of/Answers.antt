@@ -5,4 +5,4 @@ use Rattle.vector_set_search.proofs.Marks.{shifted}
 use Rattle.vector_set_search.proofs.mark_of.Goals as goal
 
 pub returns : goal.returns
-returns c = shifted (not (eqb c.args.word 0)) c.args.k c.requires
+returns c = rw c.from.ensures (shifted (not (eqb c.args.word 0)) c.args.k c.requires)

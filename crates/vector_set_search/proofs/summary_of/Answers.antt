@@ -1,13 +1,19 @@
--- `vector_set_search::summary_of` meets its contract: eight marks side by side. Assumes nothing.
+-- `vector_set_search::summary_of` meets its contract: mark by mark. Assumes nothing.
+use Rattle.std.proofs.Common.{refl, ap, ap₂, ◌∙◌, arith, bit_or}
+use Rattle.vector_set.specs.Bits.{bits}
 use Rattle.vector_set.specs.Summaries.{holds, summary_of}
-use Rattle.vector_set_search.proofs.Marks.{eight_bits}
+use Rattle.vector_set_search.proofs.Marks.{bit_more}
 use Rattle.vector_set_search.proofs.summary_of.Goals as goal
+
+pub loop-k-init : goal.loop-k-init
+unfolding bits
+loop-k-init c = refl
+
+pub loop-k-preserved : goal.loop-k-preserved
+loop-k-preserved c =
+    let h = holds c.args.s in
+    ap₂ bit_or c.loop-k.invariant c.mark_of-marks.ensures ∙ bit_more h c.loop-k.k ∙ ap (bits h 0) (omega arith)
 
 pub returns : goal.returns
 unfolding summary_of
-returns c =
-    let four = c in
-    let one = four in
-    eight_bits (holds one.args.s)
-    one.mark_of.ensures four.mark_of-2.ensures four.mark_of-3.ensures four.mark_of-4.ensures
-    c.mark_of-5.ensures c.mark_of-6.ensures c.mark_of-7.ensures c.mark_of-8.ensures
+returns c = c.loop-k.invariant ∙ ap (bits (holds c.args.s) 0) (omega arith)

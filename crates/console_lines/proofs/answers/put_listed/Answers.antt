@@ -1,11 +1,9 @@
 -- `console_lines::answers::put_listed` meets its contract.
-use mathlib.Core.Path.{sym}
-use Rattle.console.proofs.Fills.{puts_more, puts_of}
-use Rattle.console_lines.specs.Lines.{codes_text}
+use Rattle.console.proofs.Fills.{puts_more}
 use Rattle.console_lines.proofs.answers.put_listed.Goals as goal
 
 pub returns : goal.returns
 returns c =
-    let t1 = puts_more c.put_answer-at.ensures c.put-at.ensures in
-    let t2 = puts_more t1 (puts_of codes_text (sym c.first_values.ensures) c.put_codes-at.ensures) in
-    puts_more t2 c.put_byte.ensures
+    let t1 = puts_more c.put_answer.ensures c.put.ensures in
+    let t2 = puts_more t1 c.put_codes.ensures in
+    puts_more t2 c.put-2.ensures

@@ -3,4 +3,4 @@ use Rattle.console.proofs.Fills.{puts_more}
 use Rattle.console_lines.proofs.answers.put_plain.Goals as goal
 
 pub returns : goal.returns
-returns c = puts_more c.put_answer-at.ensures c.put_byte.ensures
+returns c = puts_more c.put_answer.ensures c.put.ensures

@@ -6,6 +6,4 @@ use Rattle.console_lines.proofs.output.put_decimal.Goals as goal
 
 pub returns : goal.returns
 unfolding in_decimal
-returns c =
-    puts_more c.put-at.ensures
-    (puts_same (decimal_is _ _ _ c.ranges.n.fits c.decimal-k.ensures.len c.decimal-k.ensures.digits) c.put.ensures)
+returns c = puts_more c.put.ensures (puts_same (decimal_is _ _ _ c.ranges.n.fits c.decimal-k.ensures.len c.decimal-k.ensures.digits) c.put-2.ensures)

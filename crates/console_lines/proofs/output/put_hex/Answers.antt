@@ -7,5 +7,5 @@ use Rattle.console_lines.proofs.output.put_hex.Goals as goal
 pub returns : goal.returns
 unfolding in_hex
 returns c =
-    puts_more (puts_more c.put-at.ensures c.put-at-2.ensures)
-    (puts_same (hex_is _ _ _ c.ranges.n.fits c.hex-k.ensures.len c.hex-k.ensures.digits) c.put.ensures)
+    puts_more (puts_more c.put.ensures c.put-2.ensures)
+    (puts_same (hex_is _ _ _ c.ranges.n.fits c.hex-k.ensures.len c.hex-k.ensures.digits) c.put-3.ensures)

@@ -5,12 +5,9 @@ use Prim.Native.Nat.{◌-◌}
 use borrow.Author.Rules.{rules}
 use borrow.Author.Tests.{ne_eqb, lt-ltb, le-ltb}
 use Rattle.console.proofs.Fills.{puts_none, puts_of, puts_same}
-use Rattle.console_lines.specs.Lines.{vcpu_line, state_line}
+use Rattle.console_lines.specs.Lines.{vcpu_line}
 use Rattle.console_lines.proofs.Told.{vcpu_there, vcpu_beyond, vcpu_absent, record_is}
 use Rattle.console_lines.proofs.state.put_state.Goals as goal
-
-pub returns-then-k-eq0 : goal.returns-then-k-eq0
-returns-then-k-eq0 c = puts_of (state_line _) c.if-k-eq0.true c.put_module.ensures
 
 pub returns-then-i-m : goal.returns-then-i-m
 returns-then-i-m c =
@@ -19,8 +16,8 @@ returns-then-i-m c =
     puts_same (vcpu_there a.m a.k (ne_eqb a.k 0 c.if-k-eq0.false) h (lt-ltb _ _ c.if-i-m.true))
     (puts_of (vcpu_line (a.k - 1)) (sym (record_is a.m (a.k - 1) _ h (search rules))) c.put_vcpu.ensures)
 
-pub returns : goal.returns
-returns c =
+pub returns-else-i-lt32 : goal.returns-else-i-lt32
+returns-else-i-lt32 c =
     let a = c.args in
     let e = ne_eqb a.k 0 c.if-k-eq0.false in
     ⊎_elim (λ w. puts_same (vcpu_absent a.m a.k e w.0 (le-ltb _ _ w.1)) (puts_none _ _))

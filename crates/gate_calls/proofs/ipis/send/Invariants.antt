@@ -1,11 +1,13 @@
--- The vCPUs below k have been gone through.
-use Rattle.std.proofs.Common.{◌≡◌, ◌-◌, ◌≤◌, length}
+-- The vCPUs below k have been gone through; the records from k on are as they were.
+use Rattle.std.proofs.Common.{◌≡◌, ℕ, ◌≤◌, length}
+use Rattle.model.specs.State.{vcpu_at}
 use Rattle.vcpu.specs.Records.{send_below}
 use Rattle.vcpu.proofs.Turns.{sent_to}
 use Rattle.gate_calls.proofs.ipis.send.Given as goal
 
 abbrev pub invariant-loop-k : goal.invariant-loop-k
-invariant-loop-k l = (l.k ≤ l.n) × (length l.after.vcpus ≡ 32) × (sent_to l.mask l.after ≡ send_below l.caller l.value l.initial.after l.k)
-
-abbrev pub decreases-loop-k : goal.decreases-loop-k
-decreases-loop-k l = l.n - l.k
+invariant-loop-k l = record {
+  long : length l.m.vcpus ≡ 32;
+  rest : (j : ℕ) → l.k ≤ j → vcpu_at l.m j ≡ vcpu_at l.initial.m j;
+  so : sent_to l.mask l.m ≡ send_below l.caller l.value l.initial.m l.k;
+}

@@ -1,17 +1,12 @@
 use mathlib.Core.Path.{◌≡◌}
-use Prim.Native.Nat.{◌-◌, ◌≤◌}
-use lib.ListN.{length, drop}
-use Rattle.trace.specs.Words.{spaces, words}
+use Prim.Native.Nat.{◌≤◌}
+use lib.ListN.{length}
+use Rattle.trace.specs.Words.{words}
 use Rattle.trace.proofs.Listing.{Reached}
 use Rattle.trace.proofs.lists.fill.Given as goal
 
-abbrev pub invariant-loop-i : goal.invariant-loop-i
-invariant-loop-i l =
-    (l.i ≤ length l.s)
-    × (spaces (drop l.i l.s) ≡ 0)
-    × (l.k ≤ 1024)
+abbrev pub invariant-loop-word : goal.invariant-loop-word
+invariant-loop-word l =
+    (l.count ≤ 1024)
     × (length l.values ≡ 1024)
-    × Reached (words (drop l.at l.s)) l.k l.values (words (drop l.i l.s))
-
-abbrev pub decreases-loop-i : goal.decreases-loop-i
-decreases-loop-i l = 1024 - l.k
+    × Reached (words l.fn.line.left.now) l.count l.values (words l.word-iterator.left.now)

@@ -1,13 +1,12 @@
--- At each turn the bytes that are passed are others; the search ends at the byte or at the end.
+-- The place in the stretch that holds the byte, or the stretch's end.
 use Rattle.std.proofs.Common.{arith}
-use Rattle.trace.proofs.Text.{found_more, found_stop, found_end}
+use Rattle.trace.proofs.Text.{found, not_found, stretch, stretch_length}
 use Rattle.trace.proofs.scan.find.Goals as goal
 
-pub loop-i-preserved : goal.loop-i-preserved
-loop-i-preserved c = omega (arith, found_more c.args.s.now c.args.to c.args.b c.loop-i.i (omega arith) (omega arith) c.if-s-i.true)
+pub returns-in-Some-clause-value : goal.returns-in-Some-clause-value
+returns-in-Some-clause-value c =
+    let a = c.args in omega (arith, (found a.b _ _ c.in-Some.ensures).0, stretch a.b a.from a.to a.s.now c.requires.from_le_to)
 
-pub returns-else-s-i-clause-value : goal.returns-else-s-i-clause-value
-returns-else-s-i-clause-value c = omega (arith, found_stop c.args.s.now c.args.to c.args.b c.loop-i.i (omega arith) (omega arith) c.if-s-i.false)
-
-pub returns-after-loop-i-clause-value : goal.returns-after-loop-i-clause-value
-returns-after-loop-i-clause-value c = omega (arith, found_end c.args.s.now c.args.to c.args.b c.loop-i.i (omega arith))
+pub returns-in-None-clause-value : goal.returns-in-None-clause-value
+returns-in-None-clause-value c =
+    let a = c.args in omega (arith, not_found a.b _ c.in-None.ensures, stretch a.b a.from a.to a.s.now c.requires.from_le_to, stretch_length a.from a.to a.s.now c.requires.to_in_bounds)

@@ -6,7 +6,7 @@ use Prim.Native.Nat.{ℕ, ◌+◌, ◌≤◌}
 use native.Mathlib.Omega.{arith}
 use Rattle.vector_set.specs.Sets.{count, difference, intersection}
 use Rattle.vector_set.proofs.Laws.{one_le, count_le}
-use Rattle.ipi.specs.declared.Counts.{Counts}
+use Rattle.model.specs.declared.Counts.{Counts}
 use Rattle.ipi.specs.declared.Posting.{Posting}
 use Rattle.ipi.specs.Posts.{adds_bit, meets_bit, counts_of}
 use Rattle.vcpu.specs.Notices.{marks_counted}

@@ -12,7 +12,21 @@ use Rattle.model.specs.declared.Vcpu.{Vcpu}
 use borrow.Author.Tests.{lt-ltb, le-ltb}
 use Rattle.model.specs.declared.Module.{Module}
 use Rattle.model.specs.State.{vcpu_at}
-use Rattle.console_lines.specs.Lines.{module_line, vcpu_line, state_line}
+use Rattle.trace.specs.Words.{ascii}
+use Rattle.std.specs.Prelude.{Ok, Err}
+use Rattle.console.specs.declared.Answer.{Answer}
+use Rattle.console.specs.declared.Answer.TheVariants as answer
+use Rattle.model.specs.Codes.{Answered}
+use Rattle.console_lines.specs.Lines.{plain_line, start_line, module_line, vcpu_line, state_line}
+
+-- an answer that is no number
+pub plain_start : (a : Answered Answer) → ((v : ℕ) → a ≡ Ok (answer.Number v) → ⊥) → plain_line (ascii "start") a ≡ start_line a
+plain_start (Ok answer.Nothing) e = refl
+plain_start (Ok (answer.Number v)) e = absurd (e v refl)
+plain_start (Ok (answer.Counts a)) e = refl
+plain_start (Ok (answer.Presentation p)) e = refl
+plain_start (Ok (answer.Asked b)) e = refl
+plain_start (Err r) e = refl
 
 -- ---- the line of a vCPU
 module _ (m : Module) (k : ℕ) (later : eqb k 0 ≡ false) where

@@ -66,6 +66,7 @@ impl Play for InPlace {
     }
 }
 
+// Kept: beside the other program's `main`: they differ in the type that plays, and each is a loop over `Player::turn`.
 // A proved loop has to end, and nothing says that the input does: the turns are counted, up to a number that no input uses up.
 fn main(rt: HostRuntime) {
     let first = gate_start::start(0, 0);

@@ -187,3 +187,15 @@ module _ (m : Module) (i : ℕ) (cs q : List ℕ) where
         (sym told ∙ said.0 ∙ ap (λ (w : Vcpu). listed_on (list_verdict w.phase cs q) cs w.allowed) here)
         (said.1 ∙ ap (λ (w : Vcpu). page_on (list_verdict w.phase cs q) (codes_in cs q) q) here)
         ∙ by_list verdict_on refl ∙ ap (λ (g : Verdict). decided g m (at i (allow cs q))) (sym (same_verdict below))
+
+    pub list_kept : (r o : Answered (Option (List ℕ))) (zs : List ℕ)
+        → (r ≡ listed_on (list_verdict u.phase cs q) cs u.allowed) × (zs ≡ page_on (list_verdict u.phase cs q) (codes_in cs q) q)
+        → r ≡ o → ((s : List ℕ) → o ≡ Ok (Some s) → ⊥) → listed_out (record { answer = list_answer o; after = m }) cs zs ≡ step m (at i (allow cs q))
+    list_kept r (Ok None) zs said e n = list_step r (Ok None) zs said e
+    list_kept r (Ok (Some s)) zs said e n = absurd (n s refl)
+    list_kept r (Err c) zs said e n = list_step r (Err c) zs said e
+
+    pub list_stored : (r : Answered (Option (List ℕ))) (s zs : List ℕ)
+        → (r ≡ listed_on (list_verdict u.phase cs q) cs u.allowed) × (zs ≡ page_on (list_verdict u.phase cs q) (codes_in cs q) q)
+        → r ≡ Ok (Some s) → listed_out (record { answer = list_answer (Ok (Some s)); after = with_vcpu m k (permitted_vcpu s u) }) cs zs ≡ step m (at i (allow cs q))
+    list_stored r s zs said e = list_step r (Ok (Some s)) zs said e

@@ -61,6 +61,7 @@ fn permit_all(values: &[u32], codes: &mut [u32], allowed: [u32; 8]) -> Option<[u
     accepts.then_some(set)
 }
 
+// Kept: a list and its codes as two parameters, here and in the gates: one is read and the other written, each of its own length.
 // A list for a vCPU in the phase, with the set allowed: the set after it, where a value was accepted. The code of each value goes to the second list, whose
 // entries past the count stay.
 #[tactic(auto, unfolding(crate::specs::Values::list_verdict, model::specs::Events::list_fits, vcpu::specs::Records::page_on))]

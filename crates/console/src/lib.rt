@@ -115,7 +115,7 @@ pub fn first_mut<T>(values: &mut [T], count: usize) -> &mut [T]
     &mut values[..end]
 }
 
-// Kept: a length beside the list: it is what the trace asks for, and may be more than the list has.
+// Kept: a length beside the list: the trace asks for it, and this public function takes any, also more than the list has.
 // Sets each code to `fill`. Gives the first `length`, or all where there are no more.
 pub fn blank_codes(codes: &mut [u32], length: usize, fill: u32) -> &mut [u32]
     ensures result_value { result.now ≡ take length (replicate (ListN·length codes.old) fill) }

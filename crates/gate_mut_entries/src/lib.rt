@@ -9,7 +9,7 @@ ghost use Rattle.gate_mut_entries.specs.Steps.{level_moved, vector_shown, vector
 
 use gate::index_of;
 use model::{InFlight, Module, Presentation, Refusal, Vcpu};
-use vcpu_entries::{non_delivery_vcpu, would_present_vcpu};
+use vcpu_entries::{item_to_return, return_item, would_present_vcpu};
 use vcpu_stages::answers::{answer_before, answer_to, candidate, rests};
 use vcpu_stages::words::{level_words_after, marks_after, words_after};
 use vector_set::word_of;
@@ -110,6 +110,7 @@ pub fn non_delivery_in(m: &mut Module, vcpu: u32) -> Result<u64, Refusal>
     ensures { out_of (record { answer = result; after = m.new }) [] ≡ step m.old (at vcpu Act.non_delivery) }
 {
     let i = index_of(m, vcpu)?;
-    m.vcpus[i] = non_delivery_vcpu(m.vcpus[i])?;
+    let item = item_to_return(m.vcpus[i])?;
+    m.vcpus[i] = return_item(m.vcpus[i], item);
     Ok(0)
 }

@@ -163,7 +163,36 @@ module _ (m : Module) (i : ℕ) (cs q : List ℕ) where
   by_list (refuse c) e = refl
   by_list accept e = sym (accepted_list (is_active_lem e))
 
-  -- the function's answer o, with module and second list as they are then, is the step, where the record is read at k
+  -- the function's answer, with module and second list as they are then, is the step
+  pub list_step : (r : Answered (Option (List ℕ))) (zs : List ℕ) → i < size m
+      → r ≡ listed_on verdict_on cs v.allowed → zs ≡ page_on verdict_on (codes_in cs q) q
+      → listed_out (record { answer = list_answer r; after = after_list r i v m }) cs zs ≡ step m (at i (allow cs q))
+  unfolding step
+  list_step r zs l e f =
+      ap₂ (λ (p : Answered (Option (List ℕ))) (ys : List ℕ). listed_out (record { answer = list_answer p; after = after_list p i v m }) cs ys) e f
+      ∙ by_list verdict_on refl ∙ ap (λ (g : Verdict). decided g m (at i (allow cs q))) (sym (same_verdict l))
+
+  -- the same by whether the record is stored, for a copy u of it
+  module _ (u : Vcpu) (here : u ≡ vcpu_at m i) (r : Answered (Option (List ℕ))) (zs : List ℕ) (l : i < size m)
+      (said : (r ≡ listed_on (list_verdict u.phase cs q) cs u.allowed) × (zs ≡ page_on (list_verdict u.phase cs q) (codes_in cs q) q)) where
+    told : (o : Answered (Option (List ℕ))) → r ≡ o
+        → listed_out (record { answer = list_answer o; after = after_list o i u m }) cs zs ≡ step m (at i (allow cs q))
+    told o e =
+        ap₂ (λ (w : Vcpu) (p : Answered (Option (List ℕ))). listed_out (record { answer = list_answer p; after = after_list p i w m }) cs zs) here (sym e)
+        ∙ list_step r zs l (said.0 ∙ ap (λ (w : Vcpu). listed_on (list_verdict w.phase cs q) cs w.allowed) here)
+        (said.1 ∙ ap (λ (w : Vcpu). page_on (list_verdict w.phase cs q) (codes_in cs q) q) here)
+
+    pub list_kept : (o : Answered (Option (List ℕ))) → r ≡ o → ((s : List ℕ) → o ≡ Ok (Some s) → ⊥)
+        → listed_out (record { answer = list_answer o; after = m }) cs zs ≡ step m (at i (allow cs q))
+    list_kept (Ok None) e n = told (Ok None) e
+    list_kept (Ok (Some s)) e n = absurd (n s refl)
+    list_kept (Err c) e n = told (Err c) e
+
+    pub list_stored : (s : List ℕ) → r ≡ Ok (Some s)
+        → listed_out (record { answer = list_answer (Ok (Some s)); after = with_vcpu m i (permitted_vcpu s u) }) cs zs ≡ step m (at i (allow cs q))
+    list_stored s e = told (Ok (Some s)) e
+
+  -- the same for a record that is read at k, whatever is stored of it
   module _ (k : ℕ) (d : Vcpu) (placed : Ok k ≡ index_in m i) (whole : length m.vcpus ≡ 32) where
     abbrev u : Vcpu
     u = get_or m.vcpus k d
@@ -177,25 +206,8 @@ module _ (m : Module) (i : ℕ) (cs q : List ℕ) where
     here : u ≡ v
     here = ap (λ (j : ℕ). get_or m.vcpus j d) same ∙ record_is m i d (below_32 m below) whole
 
-    pub list_step : (r o : Answered (Option (List ℕ))) (zs : List ℕ)
+    pub list_read : (r o : Answered (Option (List ℕ))) (zs : List ℕ)
         → (r ≡ listed_on (list_verdict u.phase cs q) cs u.allowed) × (zs ≡ page_on (list_verdict u.phase cs q) (codes_in cs q) q)
         → r ≡ o → listed_out (record { answer = list_answer o; after = after_list o k u m }) cs zs ≡ step m (at i (allow cs q))
-    unfolding step
-    list_step r o zs said told =
-        ap₂ (λ (j : ℕ) (w : Vcpu). listed_out (record { answer = list_answer o; after = after_list o j w m }) cs zs) same here
-        ∙ ap₂ (λ (p : Answered (Option (List ℕ))) (ys : List ℕ). listed_out (record { answer = list_answer p; after = after_list p i v m }) cs ys)
-        (sym told ∙ said.0 ∙ ap (λ (w : Vcpu). listed_on (list_verdict w.phase cs q) cs w.allowed) here)
-        (said.1 ∙ ap (λ (w : Vcpu). page_on (list_verdict w.phase cs q) (codes_in cs q) q) here)
-        ∙ by_list verdict_on refl ∙ ap (λ (g : Verdict). decided g m (at i (allow cs q))) (sym (same_verdict below))
-
-    pub list_kept : (r o : Answered (Option (List ℕ))) (zs : List ℕ)
-        → (r ≡ listed_on (list_verdict u.phase cs q) cs u.allowed) × (zs ≡ page_on (list_verdict u.phase cs q) (codes_in cs q) q)
-        → r ≡ o → ((s : List ℕ) → o ≡ Ok (Some s) → ⊥) → listed_out (record { answer = list_answer o; after = m }) cs zs ≡ step m (at i (allow cs q))
-    list_kept r (Ok None) zs said e n = list_step r (Ok None) zs said e
-    list_kept r (Ok (Some s)) zs said e n = absurd (n s refl)
-    list_kept r (Err c) zs said e n = list_step r (Err c) zs said e
-
-    pub list_stored : (r : Answered (Option (List ℕ))) (s zs : List ℕ)
-        → (r ≡ listed_on (list_verdict u.phase cs q) cs u.allowed) × (zs ≡ page_on (list_verdict u.phase cs q) (codes_in cs q) q)
-        → r ≡ Ok (Some s) → listed_out (record { answer = list_answer (Ok (Some s)); after = with_vcpu m k (permitted_vcpu s u) }) cs zs ≡ step m (at i (allow cs q))
-    list_stored r s zs said e = list_step r (Ok (Some s)) zs said e
+    list_read r o zs said e =
+        ap (λ (j : ℕ). listed_out (record { answer = list_answer o; after = after_list o j u m }) cs zs) same ∙ told u here r zs below said o e

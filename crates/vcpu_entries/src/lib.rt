@@ -2,8 +2,8 @@
 #![tactic(auto)]
 
 ghost use Rattle.std.specs.Prelude.{◌≡◌, true, false, eqb, is_some};
-ghost use Rattle.std.specs.Prelude.{Some};
-ghost use Rattle.model.specs.Codes.{Answer, presented_result, presented_by};
+ghost use Rattle.std.specs.Prelude.{Some, IfOk, IfErr};
+ghost use Rattle.model.specs.Codes.{Answer, accept, refuse, presented_result, presented_by};
 ghost use Rattle.model.specs.Items.{item_in_flight};
 ghost use Rattle.model.specs.Requests.{forget};
 ghost use Rattle.vector_set.specs.Summaries.{remade};
@@ -158,18 +158,39 @@ fn return_machine_check(v: Vcpu) -> Vcpu
     }
 }
 
-// A non-delivery on one record: what was in flight is pending again (9.2 to 9.7, 9.9).
-#[tactic(auto, unfolding(vcpu::specs::Records::non_delivery_on, model::specs::Events::vcpu_verdict))]
-pub fn non_delivery_vcpu(v: Vcpu) -> Result<Vcpu, Refusal>
-    ensures { returned_out v result ≡ non_delivery_on (vcpu_verdict 0 0 v Act.non_delivery) (item_in_flight v.flight) v }
+// What a non-delivery on one record returns: refused where the vCPU is not active or nothing is in flight (9.2).
+#[tactic(auto, unfolding(model::specs::Events::vcpu_verdict))]
+pub fn item_to_return(v: Vcpu) -> Result<Item, Refusal>
+    ensures ok { IfOk result (λ y. (vcpu_verdict 0 0 v Act.non_delivery ≡ accept) × (item_in_flight v.flight ≡ Some y)) }
+    ensures err { IfErr result (λ c. vcpu_verdict 0 0 v Act.non_delivery ≡ refuse c) }
 {
     let Phase::Active = v.phase else {
         return Err(Refusal::NotActive);
     };
     match v.flight {
         InFlight::Nothing => Err(Refusal::NothingInFlight),
-        InFlight::Nmi => Ok(return_nmi(v)),
-        InFlight::MachineCheck => Ok(return_machine_check(v)),
-        InFlight::Vector(x) => Ok(return_vector(v, x)),
+        InFlight::Nmi => Ok(Item::Nmi),
+        InFlight::MachineCheck => Ok(Item::MachineCheck),
+        InFlight::Vector(x) => Ok(Item::Vector(x)),
     }
+}
+
+// The record once the item is pending again (9.3 to 9.7, 9.9).
+pub fn return_item(v: Vcpu, item: Item) -> Vcpu
+    ensures { result ≡ undelivered (Some item) v }
+{
+    match item {
+        Item::Nmi => return_nmi(v),
+        Item::MachineCheck => return_machine_check(v),
+        Item::Vector(x) => return_vector(v, x),
+    }
+}
+
+// A non-delivery on one record: what was in flight is pending again (9.2 to 9.7, 9.9).
+#[tactic(auto, unfolding(vcpu::specs::Records::non_delivery_on))]
+pub fn non_delivery_vcpu(v: Vcpu) -> Result<Vcpu, Refusal>
+    ensures { returned_out v result ≡ non_delivery_on (vcpu_verdict 0 0 v Act.non_delivery) (item_in_flight v.flight) v }
+{
+    let item = item_to_return(v)?;
+    Ok(return_item(v, item))
 }

@@ -25,7 +25,7 @@ use Rattle.vcpu_pages.proofs.PagesLaws.{handed_vcpu, handed_is}
 use Rattle.vcpu.specs.Notices.{marks_counted}
 use Rattle.vcpu.specs.Records.{VcpuOut, notice_on, hand_back_on, page_on}
 use Rattle.vcpu.proofs.Lift.{on_record, lift_notice, lift_hand_back}
-use Rattle.vcpu.proofs.Steps.{kept}
+use Rattle.vcpu.proofs.Steps.{kept, vmpl_in}
 
 -- ---- the events, by what they make of the record v of the vCPU i
 module _ (m : Module) (i : ℕ) (h : i < size m) (v : Vcpu) (here : v ≡ vcpu_at m i) where
@@ -70,9 +70,12 @@ module _ (m : Module) (i : ℕ) (h : i < size m) (v : Vcpu) (here : v ≡ vcpu_a
         notice_one below fit f c e = let z = laws.record_one m.vmpl v p q r w x t below fit f c e in noticed_on p q _ z.0 z.1
 
         pub marks_asked : x.many ≡ true
-            → (256 ≤ length q) × (announces m.vmpl q ≡ true) × (bit_of (descriptor m.vmpl q) many_bit ≡ true)
-            × (x ≡ requested_in v.allowed (descriptor m.vmpl q))
-        marks_asked f = laws.still_asks m.vmpl v p q r w x t f
+            → (256 ≤ length q) × (1 ≤ m.vmpl) × (m.vmpl ≤ 3) × (announces m.vmpl q ≡ true)
+            × (bit_of (descriptor m.vmpl q) many_bit ≡ true) × (x ≡ requested_in v.allowed (descriptor m.vmpl q))
+        marks_asked f =
+            let z = laws.still_asks m.vmpl v p q r w x t f in
+            let l = vmpl_in m i h in
+            (z.0, l.0, l.1, z.1, z.2, z.3)
 
         pub notice_many : x.many ≡ true → x.posting.word < 8 → Fits v
             → (e z : List ℕ) → e ≡ collect (admits_edge v.allowed (descriptor m.vmpl q)) → z ≡ noticed_page m.vmpl q

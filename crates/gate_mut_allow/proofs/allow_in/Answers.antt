@@ -6,7 +6,7 @@ use Rattle.model.specs.Codes.{Answered}
 use Rattle.model.specs.Events.{allow, at, listed_out}
 use Rattle.gate.proofs.Known.{unstepped}
 use Rattle.gate_mut.proofs.InRow.{put_back}
-use Rattle.vcpu_allow.proofs.ListSteps.{list_step}
+use Rattle.vcpu_allow.proofs.ListSteps.{list_read}
 use Rattle.gate_mut_allow.proofs.allow_in.Goals as goal
 
 pub returns-in_err-i : goal.returns-in_err-i
@@ -26,7 +26,7 @@ returns-in_err-allowed c =
     ap (λ (g : Module). listed_out (record { answer = c.from_residual-in_err-allowed.result; after = g }) a.values.now r.new.codes)
     (put_back a.m.now c.in_ok-i.i (omega (arith, low)))
     ∙ ap (λ (s : Answered ℕ). listed_out (record { answer = s; after = a.m.now }) a.values.now r.new.codes) gone
-    ∙ list_step a.m.now a.vcpu a.values.now a.codes.now c.in_ok-i.i _ c.in_ok-i.ensures.value (omega arith)
+    ∙ list_read a.m.now a.vcpu a.values.now a.codes.now c.in_ok-i.i _ c.in_ok-i.ensures.value (omega arith)
     r.result (Err c.in_err-allowed.field-0.0) r.new.codes r.ensures c.in_err-allowed.was
 
 pub returns-in-Some : goal.returns-in-Some
@@ -34,7 +34,7 @@ unfolding with_vcpu
 returns-in-Some c =
     let a = c.args in
     let r = c.allow_values in
-    list_step a.m.now a.vcpu a.values.now a.codes.now c.in_ok-i.i _ c.in_ok-i.ensures.value (omega arith)
+    list_read a.m.now a.vcpu a.values.now a.codes.now c.in_ok-i.i _ c.in_ok-i.ensures.value (omega arith)
     r.result (Ok (Some c.in-Some.allowed)) r.new.codes r.ensures (c.in_ok-allowed.was ∙ ap (λ o. Ok o) c.in-Some.is)
 
 pub returns-in_default : goal.returns-in_default
@@ -44,5 +44,5 @@ returns-in_default c =
     let r = c.allow_values in
     let low : c.in_ok-i.i < 32 = c.in_ok-i.ensures.in_bounds in
     ap (λ (g : Module). listed_out (record { answer = Ok 0; after = g }) a.values.now r.new.codes) (put_back a.m.now c.in_ok-i.i (omega (arith, low)))
-    ∙ list_step a.m.now a.vcpu a.values.now a.codes.now c.in_ok-i.i _ c.in_ok-i.ensures.value (omega arith)
+    ∙ list_read a.m.now a.vcpu a.values.now a.codes.now c.in_ok-i.i _ c.in_ok-i.ensures.value (omega arith)
     r.result (Ok None) r.new.codes r.ensures (c.in_ok-allowed.was ∙ ap (λ o. Ok o) c.in_default.is)

@@ -82,8 +82,11 @@ take_marks-edge-requires c =
     let m = a.m.now in
     let i = c.in_ok-i.i in
     let f = found m a.vcpu i c.in_ok-i.ensures.value in
-    marks_asked m i f.0 (get_or m.vcpus i unread) (is_here m i (omega (arith, below_32 m f.0))) a.page.now c.take.new.page c.take.result c.take.ensures _
-    (c.in_ok-requested.was ∙ ap Ok c.in-Some.is) (ap (λ (x : Asked). x.many) (sym c.requested.view_is) ∙ on _ c.if-not-requested.false)
+    let here = is_here m i (omega (arith, below_32 m f.0)) in
+    let z =
+    marks_asked m i f.0 (get_or m.vcpus i unread) here a.page.now c.take.new.page c.take.result c.take.ensures _
+    (c.in_ok-requested.was ∙ ap Ok c.in-Some.is) (ap (λ (x : Asked). x.many) (sym c.requested.view_is) ∙ on _ c.if-not-requested.false) in
+    (z.0, z.3, z.4, z.5)
 
 pub returns : goal.returns
 unfolding with_vcpu

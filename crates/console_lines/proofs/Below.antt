@@ -3,16 +3,18 @@
 use mathlib.Core.Path.{◌≡◌, refl, sym, ap, ◌∙◌}
 use mathlib.Core.Bool.{Bool, true, false, cond}
 use mathlib.Core.List.{List, [], ◌∷◌, ◌++◌, append-nil}
-use Prim.Native.Nat.{ℕ, ◌+◌, ◌≤◌}
+use Prim.Native.Nat.{ℕ, zero, suc, ◌+◌, ◌<◌, ◌≤◌}
 use native.Mathlib.Numerals.{add-one}
 use native.Mathlib.Omega.{arith}
-use lib.ListN.{length, get_or}
+use lib.ListN.{length, drop, get_or}
 use mir.Val.{bool_byte}
+use Rattle.std.specs.Int.{w64, to_le_bytes}
+use Rattle.std.proofs.lemmas.List.{append_assoc, get_or_append_left, get_or-drop, drop-drop, drop_at}
 use Rattle.vector_set.specs.Sets.{has}
 use Rattle.console.specs.Filling.{Puts}
 use Rattle.console.proofs.Fills.{puts_of}
 use Rattle.console_lines.specs.Numerals.{in_hex}
-use Rattle.console_lines.specs.Lines.{cell_text, cells_below, page_text, code_text, codes_below, codes_text, begun, member_text, members_below, bit}
+use Rattle.console_lines.specs.Lines.{cell_text, cells_below, page_text, cells_from, part_text, code_text, codes_below, codes_text, begun, member_text, members_below, bit}
 
 pub cell_more : (page : List ℕ) (i : ℕ) → cells_below i page ++ cell_text i (get_or page i 0) ≡ cells_below (i + 1) page
 unfolding cells_below
@@ -21,6 +23,44 @@ cell_more page i = ap (λ (n : ℕ). cells_below n page) (sym (add-one i))
 pub all_cells : (page : List ℕ) (i : ℕ) → i ≤ length page → length page ≤ i → cells_below i page ≡ page_text page
 all_cells page i h g = let e : i ≡ length page = omega (arith, h, g) in ap (λ (n : ℕ). cells_below n page) e
 
+-- ---- a part of a page
+pub part_more : (first : ℕ) (part : List ℕ) (i : ℕ) → cells_from first i part ++ cell_text (first + i) (get_or part i 0) ≡ cells_from first (i + 1) part
+unfolding cells_from
+part_more first part i = ap (λ (n : ℕ). cells_from first n part) (sym (add-one i))
+
+pub all_of_part : (first : ℕ) (part : List ℕ) (i : ℕ) → i ≤ length part → length part ≤ i → cells_from first i part ≡ part_text first part
+all_of_part first part i h g = let e : i ≡ length part = omega (arith, h, g) in ap (λ (n : ℕ). cells_from first n part) e
+
+-- eight zeros have no text
+pub no_cells : (first : ℕ) (part : List ℕ) → to_le_bytes w64 0 ≡ part → [] ≡ part_text first part
+unfolding cells_from
+no_cells first part e = ap (part_text first) e
+
+-- a part of a page, and what is behind it
+module _ (first : ℕ) (page part rest : List ℕ) (e : drop first page ≡ part ++ rest) where
+  byte_of : (i : ℕ) → i < length part → get_or part i 0 ≡ get_or page (first + i) 0
+  byte_of i h = sym (get_or_append_left part rest 0 i h) ∙ ap (λ (s : List ℕ). get_or s i 0) (sym e) ∙ get_or-drop first page i 0
+
+  cells_behind : (n : ℕ) → n ≤ length part → cells_below first page ++ cells_from first n part ≡ cells_below (first + n) page
+  unfolding cells_from
+  cells_behind zero h = append-nil (cells_below first page) ∙ ap (λ (n : ℕ). cells_below n page) (omega arith)
+  cells_behind (suc n) h =
+      let i = first + n in
+      let next : i + 1 ≡ first + suc n = omega arith in
+      sym (append_assoc (cells_below first page) (cells_from first n part) (cell_text i (get_or part n 0)))
+      ∙ ap (λ (s : List ℕ). s ++ cell_text i (get_or part n 0)) (cells_behind n (omega (arith, h)))
+      ∙ ap (λ (b : ℕ). cells_below i page ++ cell_text i b) (byte_of n (omega (arith, h)))
+      ∙ cell_more page i
+      ∙ ap (λ (k : ℕ). cells_below k page) next
+
+  -- its cells stand behind those of all that is before it
+  pub part_behind : cells_below first page ++ part_text first part ≡ cells_below (first + length part) page
+  part_behind = cells_behind (length part) (omega arith)
+
+  pub rest_behind : rest ≡ drop (first + length part) page
+  rest_behind = sym (drop_at part rest (length part) refl) ∙ ap (drop (length part)) (sym e) ∙ drop-drop (length part) first page
+
+-- ---- codes
 pub code_more : (codes : List ℕ) (i : ℕ) → codes_below i codes ++ code_text (get_or codes i 0) ≡ codes_below (i + 1) codes
 unfolding codes_below
 code_more codes i = ap (λ (n : ℕ). codes_below n codes) (sym (add-one i))

@@ -1,6 +1,6 @@
 -- The lines that the programs print, as docs/REPLAY.md has them.
 -- Assumes nothing.
-use Rattle.std.specs.Prelude.{Ok, Err, Bool, true, false, cond, ◌&&◌, List, [], ◌∷◌, ◌++◌, ℕ, zero, suc, ◌-◌, eqb, ltb, length, get_or, take}
+use Rattle.std.specs.Prelude.{Ok, Err, Bool, true, false, cond, ◌&&◌, List, [], ◌∷◌, ◌++◌, ℕ, zero, suc, ◌+◌, ◌-◌, eqb, ltb, length, get_or, take}
 use Rattle.vector_set.specs.Sets.{has}
 use Rattle.model.specs.declared.Refusal.{Refusal}
 use Rattle.model.specs.declared.Counts.{Counts}
@@ -67,6 +67,14 @@ cell_text offset b = cond (eqb b 0) [] (in_hex (ascii " ") offset ++ in_hex (asc
 unfoldable pub cells_below : ℕ → List ℕ → List ℕ
 cells_below zero page = []
 cells_below (suc i) page = cells_below i page ++ cell_text i (get_or page i 0)
+
+-- the same of a part, whose first byte has the offset `first`
+unfoldable pub cells_from : ℕ → ℕ → List ℕ → List ℕ
+cells_from first zero part = []
+cells_from first (suc i) part = cells_from first i part ++ cell_text (first + i) (get_or part i 0)
+
+abbrev pub part_text : ℕ → List ℕ → List ℕ
+part_text first part = cells_from first (length part) part
 
 abbrev pub page_text : List ℕ → List ℕ
 page_text page = cells_below (length page) page

@@ -1,8 +1,8 @@
 // The line of an event: its name, its answer, and the page or the codes where it has them.
-ghost use Rattle.std.specs.Prelude.{◌++◌};
+ghost use Rattle.std.specs.Prelude.{◌+◌, ◌^◌, ◌<◌, ◌++◌, length};
 ghost use Rattle.console.specs.Filling.{Adds};
 ghost use Rattle.console_lines.specs.Lines.{counts_text, presentation_text, asked_text, given_text, answer_text};
-ghost use Rattle.console_lines.specs.Lines.{cell_text, page_text, code_text, codes_text};
+ghost use Rattle.console_lines.specs.Lines.{cell_text, part_text, page_text, code_text, codes_text};
 ghost use Rattle.console_lines.specs.Lines.{plain_line, start_line, paged_line, listed_line, unreadable_line};
 
 use crate::output::{put_decimal, put_hex};
@@ -76,12 +76,39 @@ fn put_cell(out: &mut Output, offset: usize, b: u8)
     put_hex(out, b"=", u64::from(b));
 }
 
+// The bytes of a part of a page that are not zero: `first` is the offset of its first byte. It stays a function of its own, so that the loop over the parts
+// has registers for its place.
+#[inline(never)]
+fn put_cells(out: &mut Output, first: usize, part: &[u8])
+    requires { first + length part.now < 2 ^ 64 }
+    ensures { Adds (part_text first part.now) out.old out.new }
+{
+    for (k, b) in part.iter().enumerate() {
+        put_cell(out, first + k, *b);
+    }
+}
+
+// What `put_cells` puts. Most pages are zeros almost throughout: eight zeros are passed over at once.
+fn put_part(out: &mut Output, first: usize, part: &[u8])
+    requires { first + length part.now < 2 ^ 64 }
+    ensures { Adds (part_text first part.now) out.old out.new }
+{
+    if let Some(eight) = part.as_array()
+        && u64::from_le_bytes(*eight) == 0
+    {
+        return;
+    }
+    put_cells(out, first, part);
+}
+
 // The bytes of the page that are not zero.
 fn put_page(out: &mut Output, page: &[u8])
     ensures { Adds (page_text page.now) out.old out.new }
 {
-    for (offset, b) in page.iter().enumerate() {
-        put_cell(out, offset, *b);
+    let mut first = 0;
+    for part in page.chunks(8) {
+        put_part(out, first, part);
+        first += part.len();
     }
 }
 

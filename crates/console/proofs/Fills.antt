@@ -1,6 +1,6 @@
 -- A text put behind a text is the two together put at once, and where there is room for a text it stands as it is.
 -- Assumes nothing.
-use Rattle.std.proofs.Common.{◌≡◌, ℕ, zero, suc, ◌+◌, ◌-◌, ◌<◌, ◌≤◌, List, [], ◌∷◌, ◌++◌, length, take, drop, set, sym, refl, ap, ◌∙◌, subst, arith, length-append, length-take, take_all}
+use Rattle.std.proofs.Common.{◌≡◌, ℕ, zero, suc, ◌+◌, ◌-◌, ◌<◌, ◌≤◌, List, [], ◌∷◌, ◌++◌, length, get_or, take, drop, set, sym, refl, ap, ◌∙◌, subst, add-one, arith, length-append, length-take, take_all, take-suc}
 use Rattle.std.proofs.lemmas.List.{append_assoc}
 use borrow.Rule.Slice.PartMut.{put_mid, Post-is}
 use lib.Seq.{sets, sets-eq, take-nil}
@@ -53,6 +53,12 @@ module _ {room : ℕ} where
         behind = ap (λ (s : List ℕ). at + length s) f;
       }
 
+  pub puts_byte : (b : ℕ) (o : List ℕ) (a : ℕ) → a < room → Puts room (b ∷ []) o a (set o a b) (a + 1)
+  unfolding filled reached fitting
+  puts_byte b o a h =
+      let e : take (room - a) (b ∷ []) ≡ b ∷ [] = take_all (room - a) (b ∷ []) (omega arith) in
+      record { stored = ap (sets o a) (sym e); behind = ap (λ (s : List ℕ). a + length s) (sym e) }
+
   -- a text, and another behind it
   pub puts_more : {s t o o' o'' : List ℕ} {a a' a'' : ℕ} → Puts room s o a o' a' → Puts room t o' a' o'' a'' → Puts room (s ++ t) o a o'' a''
   unfolding filled reached fitting
@@ -92,3 +98,19 @@ module _ {room : ℕ} where
         p.stored ∙ ap (sets o a) w ∙ sets-eq s o a (omega (arith, e)),
         p.behind ∙ ap (λ (l : List ℕ). a + length l) w,
       )
+
+  -- ---- a loop that puts a text byte by byte: a turn, also by what it stored, and the end
+  pub turn_put : (text : List ℕ) {o o' o'' : List ℕ} {a a' a'' : ℕ} (i : ℕ) → i < length text → Puts room (take i text) o a o' a'
+      → Puts room (get_or text i 0 ∷ []) o' a' o'' a'' → Puts room (take (i + 1) text) o a o'' a''
+  turn_put text {o} {o'} {o''} {a} {a'} {a''} i h p q = puts_same (sym (ap (λ (n : ℕ). take n text) (add-one i) ∙ take-suc text i 0 h)) (puts_more p q)
+
+  pub turn_stored : (text : List ℕ) {o o' : List ℕ} {a a' : ℕ} (i : ℕ) → i < length text → a' < room → Puts room (take i text) o a o' a'
+      → Puts room (take (i + 1) text) o a (set o' a' (get_or text i 0)) (a' + 1)
+  turn_stored text {o} {o'} {a} {a'} i h r p = turn_put text i h p (puts_byte (get_or text i 0) o' a' r)
+
+  pub turn_lost : (text : List ℕ) {o o' : List ℕ} {a a' : ℕ} (i : ℕ) → i < length text → room ≤ a' → Puts room (take i text) o a o' a'
+      → Puts room (take (i + 1) text) o a o' a'
+  turn_lost text {o} {o'} {a} {a'} i h r p = turn_put text i h p (puts_out (get_or text i 0 ∷ []) o' a' r)
+
+  pub all_put : {text o o' : List ℕ} {a a' i : ℕ} → Puts room (take i text) o a o' a' → length text ≤ i → Puts room text o a o' a'
+  all_put {text} {o} {o'} {a} {a'} {i} p h = puts_same (take_all i text h) p

@@ -4,6 +4,9 @@ ghost use Rattle.console.specs.Filling.{Adds};
 
 use crate::first;
 
+// The longest text that is put byte by byte: to call what copies costs more than a few bytes. No hexadecimal number is longer.
+const SHORT: usize = 16;
+
 // The first `len` of the bytes are those that were put. A `len` above `N` is that of a full buffer.
 // Kept: a struct of its own, and no ArrayVec, which takes a text whole or not at all; no invariant bounds `len`, since that would ask more of callers.
 #[derive(Clone, Copy)]
@@ -38,6 +41,29 @@ impl<const N: usize> Buffer<N> {
     }
 
     pub fn put(&mut self, text: &[u8])
+        ensures { Adds text.now self.old self.new }
+    {
+        if text.len() <= SHORT {
+            self.put_short(text);
+        } else {
+            self.put_long(text);
+        }
+    }
+
+    fn put_short(&mut self, text: &[u8])
+        ensures { Adds text.now self.old self.new }
+    {
+        let mut len = self.len;
+        for b in text {
+            if len < N {
+                self.bytes[len] = *b;
+                len += 1;
+            }
+        }
+        self.len = len;
+    }
+
+    fn put_long(&mut self, text: &[u8])
         ensures { Adds text.now self.old self.new }
     {
         if self.len < N {

@@ -1,7 +1,7 @@
--- `console::buffer::Buffer::put` meets its contract: as much of the text as there is room for is copied behind what is there.
+-- `console::buffer::Buffer::put_long` meets its contract: as much of the text as there is room for is copied behind what is there.
 use Rattle.std.proofs.Common.{rules}
 use Rattle.console.proofs.Fills.{puts_part, puts_out}
-use Rattle.console.proofs.buffer.Buffer.put.Goals as goal
+use Rattle.console.proofs.buffer.Buffer.put_long.Goals as goal
 
 pub returns-then-self : goal.returns-then-self
 returns-then-self g c =

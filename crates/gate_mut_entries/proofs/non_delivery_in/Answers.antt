@@ -1,4 +1,4 @@
--- An unknown vCPU, or the record is stepped by value and stored.
+-- An unknown vCPU, an item that is not returned, or the record with the item returned, stored.
 use Rattle.std.specs.Prelude.{Option, Err}
 use mathlib.Core.Path.{◌≡◌, sym, ap, ap₂, ◌∙◌}
 use mathlib.Core.List.{[]}
